@@ -1,0 +1,5 @@
+pub mod CodeParts
+pub mod Marks
+pub mod Reading
+pub mod Order
+pub mod PhraseEnd

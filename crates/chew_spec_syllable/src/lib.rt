@@ -1,0 +1,4 @@
+//! Definitions of syllables, phrases, keys and the rows of a dictionary.
+#![tactic(auto)]
+
+mod laws;
