@@ -1,0 +1,4 @@
+//! Definitions of what each key does to a keyboard layout.
+#![tactic(auto)]
+
+mod laws;
