@@ -1,0 +1,7 @@
+pub mod Call
+pub mod Dictionary
+pub mod Frequency
+pub mod History
+pub mod Look
+pub mod Order
+pub mod System

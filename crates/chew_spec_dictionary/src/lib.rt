@@ -1,0 +1,4 @@
+//! Definitions of the system's answers, the user's dictionary and its history.
+#![tactic(auto)]
+
+mod laws;
