@@ -1,0 +1,170 @@
+-- Combined rows: their order, which rows they are, and that the user's hide the system's.
+use Rattle.std.proofs.Common.{◌≡◌, ◌≢◌, ℕ, ◌<◌, Bool, true, false, not, cond, ◌||◌, List, [], ◌∷◌, ◌++◌, get_or, filter, All, AllPairs, Contains, IsSorted, bytes_eq, ◌⊎◌, inl, inr, ⊎_elim, sym, refl, ap, ◌∙◌, true≢false}
+use Rattle.std.specs.Cmp.{IsTotalOrder}
+use Rattle.std.specs.List.{list_any}
+use Rattle.std.proofs.lemmas.Bool.{and_from, and_parts, cases_order, not-true}
+use Rattle.std.proofs.lemmas.Cmp.{back_total, nat_cmp_total, nat_list_cmp_total, on_total, then_total}
+use Rattle.std.proofs.lemmas.List.{get_or_default}
+use Rattle.std.proofs.lemmas.List.Elements.{Contains-append_cases, Contains-append_left, Contains-append_right}
+use Rattle.std.proofs.lemmas.List.Folds.{list_any-append, list_any-from_Any}
+use Rattle.std.proofs.lemmas.List.Kept.{AllPairs-cons, AllPairs-filter}
+use Rattle.std.proofs.lemmas.Slice.Eq.{bytes_eq-Decides}
+use Rattle.chew_spec_syllable.specs.Row.{Row, is_pair_of, no_pair_twice}
+use Rattle.chew_spec_dictionary.specs.Look.{shown_cmp}
+use Rattle.chew_spec_dictionary.specs.System.{is_under, rows_under}
+use Rattle.chew_spec_phrasing.specs.Combined.{combined, has_phrase}
+use Rattle.chew_spec_phrasing.proofs.InOrder.{AllPairs-append, AllPairs-in_order, AllPairs-nil, Contains-from_in_order, Contains-in_order, IsSorted-in_order, list_any-in_order}
+use Rattle.chew_spec_phrasing.proofs.Membership.{All-from_Contains, Contains-filter, Contains-from_filter}
+
+-- the order in which phrases are shown is a total one
+pub shown_cmp_total : IsTotalOrder shown_cmp
+shown_cmp_total = then_total (on_total (λ (row : Row). row.freq) (back_total nat_cmp_total)) (on_total (λ (row : Row). row.phrase) nat_list_cmp_total)
+
+-- texts that are one pass the test, and no others
+pub bytes_eq_from_same : (text other : List ℕ) → text ≡ other → bytes_eq text other ≡ true
+bytes_eq_from_same text other = (bytes_eq-Decides text other).1
+
+pub same_from_bytes_eq : (text other : List ℕ) → bytes_eq text other ≡ true → text ≡ other
+same_from_bytes_eq text other = (bytes_eq-Decides text other).0
+
+-- the rows under a key are those that have it
+pub Contains-rows_under : (rows : List Row) (key : List ℕ) (row : Row) → Contains rows row → row.key ≡ key → Contains (rows_under rows key) row
+Contains-rows_under rows key row h e = Contains-filter (is_under key) rows row h (bytes_eq_from_same row.key key e)
+
+pub Contains-from_rows_under : (rows : List Row) (key : List ℕ) (row : Row) → Contains (rows_under rows key) row → Contains rows row × (row.key ≡ key)
+Contains-from_rows_under rows key row h =
+    let kept = Contains-from_filter (is_under key) rows row h in
+    (kept.0, same_from_bytes_eq row.key key kept.1)
+
+-- a row's phrase is had where the row is there
+pub has_phrase-from_Contains : (rows : List Row) (row : Row) (phrase : List ℕ) → Contains rows row → row.phrase ≡ phrase → has_phrase rows phrase ≡ true
+has_phrase-from_Contains rows row phrase h e =
+    list_any-from_Any (λ other. bytes_eq other.phrase phrase) rows (h.0, row, h.1, h.2, bytes_eq_from_same row.phrase phrase e)
+
+not_true_from_false : (b : Bool) → b ≡ false → not b ≡ true
+not_true_from_false b e = ap not e
+
+-- what a combined row is: one of the user's of the key, or one of the system's whose phrase the user has not for it
+pub Contains-combined-user : (system user : List Row) (key : List ℕ) (row : Row) → Contains user row → row.key ≡ key → Contains (combined system user key) row
+Contains-combined-user system user key row h e =
+    let mine = rows_under user key in
+    let theirs = filter (λ other. not (has_phrase mine other.phrase)) (rows_under system key) in
+    Contains-in_order shown_cmp (mine ++ theirs) row (Contains-append_left mine theirs row (Contains-rows_under user key row h e))
+
+pub Contains-combined-system : (system user : List Row) (key : List ℕ) (row : Row) → Contains system row → row.key ≡ key → has_phrase (rows_under user key) row.phrase ≡ false → Contains (combined system user key) row
+Contains-combined-system system user key row h e f =
+    let mine = rows_under user key in
+    let theirs = filter (λ other. not (has_phrase mine other.phrase)) (rows_under system key) in
+    Contains-in_order shown_cmp (mine ++ theirs) row
+    (Contains-append_right mine theirs row
+    (Contains-filter (λ other. not (has_phrase mine other.phrase)) (rows_under system key) row
+    (Contains-rows_under system key row h e) (not_true_from_false (has_phrase mine row.phrase) f)))
+
+-- and no other is one
+pub Contains-combined-cases : (system user : List Row) (key : List ℕ) (row : Row) → Contains (combined system user key) row → (row.key ≡ key) × (Contains user row ⊎ (Contains system row × (has_phrase (rows_under user key) row.phrase ≡ false)))
+Contains-combined-cases system user key row h =
+    let mine = rows_under user key in
+    let theirs = filter (λ other. not (has_phrase mine other.phrase)) (rows_under system key) in
+    ⊎_elim
+    (λ own. let kept = Contains-from_rows_under user key row own in (kept.1, inl kept.0))
+    (λ other.
+    let free = Contains-from_filter (λ r. not (has_phrase mine r.phrase)) (rows_under system key) row other in
+    let kept = Contains-from_rows_under system key row free.0 in
+    (kept.1, inr (kept.0, not-true (has_phrase mine row.phrase) free.1)))
+    (Contains-append_cases mine theirs row (Contains-from_in_order shown_cmp (mine ++ theirs) row h))
+
+-- they are in order
+pub IsSorted-combined : (system user : List Row) (key : List ℕ) → IsSorted shown_cmp (combined system user key)
+IsSorted-combined system user key =
+    IsSorted-in_order shown_cmp shown_cmp_total (rows_under user key ++ filter (λ row. not (has_phrase (rows_under user key) row.phrase)) (rows_under system key))
+
+-- two rows of different phrases
+abbrev pub IsOtherPhrase : Row → Row → Type 0
+IsOtherPhrase row other = row.phrase ≢ other.phrase
+
+no_pair : (row other : Row) (rows : List Row) → list_any (is_pair_of row.key row.phrase) rows ≡ false → Contains rows other → other.key ≡ row.key → row.phrase ≡ other.phrase → ⊥
+no_pair row other rows none h e f =
+    true≢false (sym (list_any-from_Any (is_pair_of row.key row.phrase) rows (
+      h.0,
+      other,
+      h.1,
+      h.2,
+      and_from (bytes_eq other.key row.key) (bytes_eq other.phrase row.phrase) (bytes_eq_from_same other.key row.key e) (bytes_eq_from_same other.phrase row.phrase (sym f)),
+    )) ∙ none)
+
+once_step : (row : Row) (rows : List Row) (key : List ℕ) (b : Bool) → is_under key row ≡ b → list_any (is_pair_of row.key row.phrase) rows ≡ false → AllPairs IsOtherPhrase (rows_under rows key) → AllPairs IsOtherPhrase (cond b (row ∷ rows_under rows key) (rows_under rows key))
+once_step row rows key true e none rest =
+    AllPairs-cons IsOtherPhrase row (rows_under rows key)
+    (All-from_Contains (IsOtherPhrase row) (rows_under rows key) (λ other h.
+    let kept = Contains-from_rows_under rows key other h in
+    no_pair row other rows none kept.0 (kept.1 ∙ sym (same_from_bytes_eq row.key key e))))
+    rest
+once_step row rows key false e none rest = rest
+
+-- where no pair stands twice, no phrase stands twice under a key
+pub once-rows_under : (rows : List Row) (key : List ℕ) → no_pair_twice rows ≡ true → AllPairs IsOtherPhrase (rows_under rows key)
+once-rows_under [] key e = AllPairs-nil IsOtherPhrase
+once-rows_under (row ∷ rows) key e =
+    let parts = and_parts (not (list_any (is_pair_of row.key row.phrase) rows)) (no_pair_twice rows) e in
+    once_step row rows key (is_under key row) refl (not-true (list_any (is_pair_of row.key row.phrase) rows) parts.0) (once-rows_under rows key parts.1)
+
+-- and none among the combined rows
+pub once-combined : (system user : List Row) (key : List ℕ) → no_pair_twice system ≡ true → no_pair_twice user ≡ true → AllPairs IsOtherPhrase (combined system user key)
+once-combined system user key e f =
+    let mine = rows_under user key in
+    let free = λ (row : Row). not (has_phrase mine row.phrase) in
+    let theirs = filter free (rows_under system key) in
+    AllPairs-in_order shown_cmp IsOtherPhrase (λ row other apart same. apart (sym same)) (mine ++ theirs)
+    (AllPairs-append IsOtherPhrase mine theirs (once-rows_under user key f)
+    (AllPairs-filter IsOtherPhrase free (rows_under system key) (once-rows_under system key e))
+    (All-from_Contains (λ row. All (IsOtherPhrase row) theirs) mine (λ row h.
+    All-from_Contains (IsOtherPhrase row) theirs (λ other i same.
+    let kept = Contains-from_filter free (rows_under system key) other i in
+    true≢false (sym (has_phrase-from_Contains mine row other.phrase h same) ∙ not-true (has_phrase mine other.phrase) kept.1)))))
+
+same_at : (rows : List Row) (row other : Row) → AllPairs IsOtherPhrase rows → (h : Contains rows row) (i : Contains rows other) → row.phrase ≡ other.phrase → (h.0 ≡ i.0) ⊎ ((h.0 < i.0) ⊎ (i.0 < h.0)) → row ≡ other
+same_at rows row other apart h i e (inl same) =
+    sym h.2 ∙ (get_or_default rows h.0 row other h.1 ∙ (ap (λ k. get_or rows k other) same ∙ i.2))
+same_at rows row other apart h i e (inr (inl before)) =
+    absurd (apart h.0 i.0 row before i.1 (ap (λ (r : Row). r.phrase) h.2 ∙ (e ∙ sym (ap (λ (r : Row). r.phrase) (get_or_default rows i.0 row other i.1 ∙ i.2)))))
+same_at rows row other apart h i e (inr (inr after)) =
+    absurd (apart i.0 h.0 row after h.1 (ap (λ (r : Row). r.phrase) (get_or_default rows i.0 row other i.1 ∙ i.2) ∙ (sym e ∙ sym (ap (λ (r : Row). r.phrase) h.2))))
+
+-- two rows of one phrase are one
+pub same_from_phrase : (rows : List Row) (row other : Row) → AllPairs IsOtherPhrase rows → Contains rows row → Contains rows other → row.phrase ≡ other.phrase → row ≡ other
+same_from_phrase rows row other apart h i e = same_at rows row other apart h i e (cases_order h.0 i.0)
+
+-- a user's row hides the system's of its phrase
+pub hidden-combined : (system user : List Row) (key : List ℕ) (mine row : Row) → no_pair_twice user ≡ true → Contains user mine → mine.key ≡ key → Contains (combined system user key) row → row.phrase ≡ mine.phrase → row ≡ mine
+hidden-combined system user key mine row once h e i f =
+    let cases = Contains-combined-cases system user key row i in
+    ⊎_elim
+    (λ own. same_from_phrase (rows_under user key) row mine (once-rows_under user key once) (Contains-rows_under user key row own cases.0) (Contains-rows_under user key mine h e) f)
+    (λ other. absurd (true≢false (sym (has_phrase-from_Contains (rows_under user key) mine row.phrase (Contains-rows_under user key mine h e) (sym f)) ∙ other.1)))
+    cases.1
+
+free_step : (mine : List Row) (phrase : List ℕ) (row : Row) (rows : List Row) (b c : Bool) → bytes_eq row.phrase phrase ≡ b → not (has_phrase mine row.phrase) ≡ c → has_phrase mine phrase ≡ false → has_phrase (filter (λ r. not (has_phrase mine r.phrase)) rows) phrase ≡ has_phrase rows phrase → has_phrase (cond c (row ∷ filter (λ r. not (has_phrase mine r.phrase)) rows) (filter (λ r. not (has_phrase mine r.phrase)) rows)) phrase ≡ (b || has_phrase rows phrase)
+free_step mine phrase row rows true true e f none rest = ap (λ b. b || has_phrase (filter (λ r. not (has_phrase mine r.phrase)) rows) phrase) e
+free_step mine phrase row rows true false e f none rest =
+    absurd (true≢false (sym (ap not (ap (has_phrase mine) (same_from_bytes_eq row.phrase phrase e) ∙ none)) ∙ f))
+free_step mine phrase row rows false true e f none rest = ap (λ b. b || has_phrase (filter (λ r. not (has_phrase mine r.phrase)) rows) phrase) e ∙ rest
+free_step mine phrase row rows false false e f none rest = rest
+
+-- a phrase that one list has not is had by another's rows that are free of it as by all of them
+has_phrase-free : (mine : List Row) (phrase : List ℕ) (rows : List Row) → has_phrase mine phrase ≡ false → has_phrase (filter (λ r. not (has_phrase mine r.phrase)) rows) phrase ≡ has_phrase rows phrase
+has_phrase-free mine phrase [] none = refl
+has_phrase-free mine phrase (row ∷ rows) none =
+    free_step mine phrase row rows (bytes_eq row.phrase phrase) (not (has_phrase mine row.phrase)) refl refl none (has_phrase-free mine phrase rows none)
+
+either_free : (mine : List Row) (phrase : List ℕ) (rows : List Row) (b : Bool) → has_phrase mine phrase ≡ b → (b || has_phrase (filter (λ r. not (has_phrase mine r.phrase)) rows) phrase) ≡ (b || has_phrase rows phrase)
+either_free mine phrase rows true e = refl
+either_free mine phrase rows false e = has_phrase-free mine phrase rows e
+
+-- the combined rows have the phrases of either's rows under the key, and no others
+pub has_phrase-combined : (system user : List Row) (key phrase : List ℕ) → has_phrase (combined system user key) phrase ≡ (has_phrase (rows_under user key) phrase || has_phrase (rows_under system key) phrase)
+has_phrase-combined system user key phrase =
+    let mine = rows_under user key in
+    let theirs = filter (λ row. not (has_phrase mine row.phrase)) (rows_under system key) in
+    list_any-in_order shown_cmp (λ row. bytes_eq row.phrase phrase) (mine ++ theirs)
+    ∙ (list_any-append (λ (row : Row). bytes_eq row.phrase phrase) mine theirs
+    ∙ either_free mine phrase (rows_under system key) (has_phrase mine phrase) refl)

@@ -1,0 +1,8 @@
+pub mod Best
+pub mod Combined
+pub mod Score
+pub mod Segmentation
+pub mod Usable
+pub mod Search
+pub mod CanSegment
+pub mod Known
