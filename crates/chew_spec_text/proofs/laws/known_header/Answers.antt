@@ -1,0 +1,8 @@
+-- The header computes.
+use Rattle.std.proofs.Common.{refl}
+use Rattle.std.specs.Fmt.{digits}
+use Rattle.chew_spec_text.proofs.laws.known_header.Goals as goal
+
+pub returns : goal.returns
+unfolding digits
+returns c = record { first = refl }

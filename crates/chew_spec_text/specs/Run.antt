@@ -1,0 +1,57 @@
+-- A run before its first key: what was read of its inputs, what they are, and the status of the run.
+use Rattle.std.specs.Prelude.{◌≡◌, ◌⊎◌, ℕ, ◌+◌, ◌≤◌, List, length, take, Option, Some, None, IfSome, IsNone, Result, Ok, Err, MatchResult, ok_or, if◌then◌else◌}
+use Rattle.chew_spec_outside.specs.Faults.{Rose}
+use Rattle.chew_spec_syllable.specs.Row.{Row, image_cmp}
+use Rattle.chew_spec_dictionary.specs.Order.{in_order}
+use Rattle.chew_spec_text.specs.Command.{is_run_command}
+use Rattle.chew_spec_text.specs.Line.{KeyStroke}
+use Rattle.chew_spec_text.specs.Output.{Refusal, WrongWords, WrongInput, SourceFailed, refusal_status}
+use Rattle.chew_spec_text.specs.PlainScript.{plain_script, script_limit}
+use Rattle.chew_spec_text.specs.PlainSystem.{plain_system, system_limit}
+
+-- a source over a call: what it had left, where it tells it, and its count of faults before and now
+pub record Watched : Type 0 where
+  pub left : Option (List ℕ)
+  pub faults_before : ℕ
+  pub faults_now : ℕ
+
+-- the text that a source gives: up to its end, or to one byte past the limit; none only where its count rose
+pub record IsReadOf (source : Watched) (limit : ℕ) (text : Option (List ℕ)) : Type 0 where
+  pub failed : IsNone text → Rose source.faults_before source.faults_now
+  pub within : IfSome text (λ bytes. length bytes ≤ limit + 1)
+  pub told : IfSome text (λ bytes. IfSome source.left (λ left. bytes ≡ take (limit + 1) left))
+
+-- the inputs of a run: the rows of the system in image order, and the keys of each context
+pub record Inputs : Type 0 where
+  pub system : List Row
+  pub contexts : List (List KeyStroke)
+
+-- the value of an input's text, else why there is none
+abbrev pub value_or_refusal : {X : Type 0} → (List ℕ → Option X) → Option (List ℕ) → Result X Refusal
+value_or_refusal value None = Err SourceFailed
+value_or_refusal value (Some text) = ok_or (value text) WrongInput
+
+-- the inputs of these rows and keys, or the first refusal: the system comes before the script
+abbrev pub inputs_of : Result (List Row) Refusal → Result (List (List KeyStroke)) Refusal → Result Inputs Refusal
+inputs_of (Err refusal) contexts = Err refusal
+inputs_of (Ok rows) (Err refusal) = Err refusal
+inputs_of (Ok rows) (Ok contexts) = Ok (record { system = in_order image_cmp rows; contexts = contexts })
+
+-- the inputs of a run, or its refusal before the first key: the words come before the inputs
+unfoldable pub opening : List (List ℕ) → (system script : Option (List ℕ)) → Result Inputs Refusal
+opening words system script =
+    if is_run_command words
+    then inputs_of (value_or_refusal plain_system system) (value_or_refusal plain_script script)
+    else Err WrongWords
+
+-- what was read of the two sources of a run
+pub record Texts (system script : Watched) : Type 0 where
+  pub system_text : Option (List ℕ)
+  pub script_text : Option (List ℕ)
+  pub system_read : IsReadOf system system_limit system_text
+  pub script_read : IsReadOf script script_limit script_text
+
+-- the status of a run that these texts open: 10 where memory was wanting; else that of the refusal, or 0 or 8
+abbrev pub IsStatus : Result Inputs Refusal → ℕ → Type 0
+IsStatus opened status =
+    (status ≡ 10) ⊎ MatchResult opened (λ inputs. (status ≡ 0) ⊎ (status ≡ 8)) (λ refusal. status ≡ refusal_status refusal)
