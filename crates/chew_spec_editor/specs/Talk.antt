@@ -1,0 +1,59 @@
+-- The talk of an editor with a dictionary, over a list of keys.
+use Rattle.std.specs.Prelude.{ℕ, List, [], ◌∷◌, ◌++◌, length, take, drop, nat_le, Option, Some, None, if◌then◌else◌}
+use Rattle.std.specs.Option.{option_map_or}
+use Rattle.chew_spec_syllable.specs.Row.{Row}
+use Rattle.chew_spec_dictionary.specs.Call.{Call, Reply}
+use Rattle.chew_spec_text.specs.Line.{KeyStroke, Line}
+use Rattle.chew_spec_editor.specs.Editor.{Settings, Editor, empty_editor}
+use Rattle.chew_spec_editor.specs.Finish.{finish}
+use Rattle.chew_spec_editor.specs.Press.{Pending, Pressed, Done, Ask, press}
+
+-- the calls that the handled keys made, and a line for each of these keys
+pub record Talk : Type 0 where
+  pub calls : List Call
+  pub lines : List Line
+
+-- how many keys were handled
+abbrev pub handled : Talk → ℕ
+handled talk = length talk.lines
+
+-- a talk that ends here; one with a key before it, which made these calls and has this line
+abbrev pub silence : Talk
+silence = record { calls = []; lines = [] }
+
+abbrev pub after_key : List Call → Line → Talk → Talk
+after_key calls line talk = record { calls = calls ++ talk.calls; lines = line ∷ talk.lines }
+
+-- a key that was handled: its calls, its line, and the editor then
+pub record Turn : Type 0 where
+  pub calls : List Call
+  pub line : Line
+  pub editor : Editor
+
+-- the turn of a key that asked calls, where there is a reply to each
+abbrev pub answered_turn : List Row → Pending → List Reply → Option Turn
+answered_turn system pending replies =
+    let finished = finish system pending (take (length pending.calls) replies) in
+    if nat_le (length pending.calls) (length replies)
+    then Some (record { calls = pending.calls; line = finished.line; editor = finished.editor })
+    else None
+
+abbrev pub turn_after : List Row → Pressed → List Reply → Option Turn
+turn_after system (Done editor line) replies = Some (record { calls = []; line = line; editor = editor })
+turn_after system (Ask pending) replies = answered_turn system pending replies
+
+-- the turn of a key
+abbrev pub turn_of : List Row → Settings → Editor → KeyStroke → List Reply → Option Turn
+turn_of system settings editor key replies = turn_after system (press system settings editor key) replies
+
+-- the talk from an editor on: each key takes as many replies as it has calls, and it stops where too few are left
+unfoldable pub talk_from : List Row → Settings → Editor → List KeyStroke → List Reply → Talk
+talk_from system settings editor [] replies = silence
+talk_from system settings editor (key ∷ keys) replies =
+    option_map_or
+    (λ turn. after_key turn.calls turn.line (talk_from system settings turn.editor keys (drop (length turn.calls) replies)))
+    (turn_of system settings editor key replies) silence
+
+-- the talk from an empty editor
+abbrev pub talk : List Row → Settings → List KeyStroke → List Reply → Talk
+talk system settings keys replies = talk_from system settings empty_editor keys replies

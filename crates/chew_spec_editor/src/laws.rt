@@ -1,0 +1,7 @@
+//! Laws and known values of the definitions.
+
+mod keys;
+mod known;
+mod sound;
+mod talk;
+mod turns;
