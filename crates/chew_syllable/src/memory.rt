@@ -1,0 +1,23 @@
+ghost use Rattle.std.specs.Prelude.{⊤};
+
+use std::alloc::{AllocError, AllocFailed};
+
+/// Memory was wanting.
+#[derive(Clone, Copy, Debug, PartialEq, Eq)]
+pub struct NoMemory;
+
+impl From<AllocError> for NoMemory {
+    ghost from_gives = { λ _ _. ⊤ };
+
+    fn from(_error: AllocError) -> Self {
+        NoMemory
+    }
+}
+
+impl<T: Drop> From<AllocFailed<T>> for NoMemory {
+    ghost from_gives = { λ _ _. ⊤ };
+
+    fn from(_error: AllocFailed<T>) -> Self {
+        NoMemory
+    }
+}
