@@ -1,0 +1,11 @@
+//! The default layout and Eten: each key is one part of a syllable, or its tone. No call takes memory.
+#![tactic(auto)]
+
+mod columns;
+mod direct;
+#[cfg(test)]
+mod tests;
+mod turn;
+
+pub use columns::Table;
+pub use direct::Direct;
