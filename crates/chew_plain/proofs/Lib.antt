@@ -1,0 +1,3 @@
+pub mod KeyRows
+pub mod Looks
+pub mod Orders

@@ -1,0 +1,58 @@
+-- The hits of a run, put together from those of its intervals.
+use Rattle.std.proofs.Common.{◌≡◌, ℕ, zero, suc, ◌+◌, ◌-◌, ◌≤◌, ◌<◌, List, [], ◌∷◌, ◌++◌, length, take, drop, map, flat_map, min, refl, ap, sym, ◌∙◌, subst, append_assoc, append-nil, arith}
+use Rattle.std.specs.List.{All, range_with_len}
+use Rattle.std.proofs.lemmas.List.{length-take, length-drop}
+use Rattle.chew_spec_syllable.specs.Row.{Row}
+use Rattle.chew_spec_dictionary.specs.Call.{Hit}
+use Rattle.chew_spec_dictionary.specs.Look.{hit_of, hits_of, shown_cmp, shown_hit_cmp}
+use Rattle.chew_spec_dictionary.specs.Order.{in_order}
+use Rattle.chew_spec_dictionary.specs.System.{rows_under}
+use Rattle.chew_spec_dictionary.proofs.Sorting.{in_order_map}
+use Rattle.chew_plain.specs.Look.{interval, hits_at, hits_from}
+use Rattle.chew_plain.proofs.KeyRows.{all_have_key}
+
+-- the rows of a key have keys as long as it
+pub keys_as_long : (rows found : List Row) (key : List ℕ) (len : ℕ) → found ≡ rows_under rows key → length key ≡ len → All (λ row. length row.key ≡ len) found
+keys_as_long rows found key len e long = subst (All (λ (row : Row). length row.key ≡ len)) (sym e) (λ i d l. ap length (all_have_key key rows i d l) ∙ long)
+
+-- the syllables of an interval are as many as its length says
+pub interval_long : (run : List ℕ) (start len : ℕ) → start + len ≤ length run → length (take (start + len - start) (drop start run)) ≡ len
+interval_long run start len inside = omega (arith, length-take (start + len - start) (drop start run), length-drop start run)
+
+-- the rows of an interval as hits, sorted, are its hits
+pub shown_hits : (rows found : List Row) (run : List ℕ) (start len : ℕ) (shown sorted : List Hit)
+    → found ≡ rows_under rows (take (start + len - start) (drop start run))
+    → shown ≡ map (hit_of (interval start len)) found → sorted ≡ in_order shown_hit_cmp shown
+    → sorted ≡ hits_at rows run (interval start len)
+shown_hits rows found run start len shown sorted f s o =
+    o ∙ ap (in_order shown_hit_cmp) (s ∙ ap (map (hit_of (interval start len))) (f ∙ ap (λ (n : ℕ). rows_under rows (take n (drop start run))) (let e : start + len - start ≡ len = omega arith in e)))
+    ∙ in_order_map (hit_of (interval start len)) shown_cmp shown_hit_cmp (λ x y. refl) (rows_under rows (take len (drop start run)))
+
+-- one more part: what is there, and the parts to come, stay the same as a whole
+pub part_more : {X : Type 0} (parts : ℕ → List X) (had now whole : List X) (i end : ℕ) → i < end → now ≡ had ++ parts i
+    → had ++ flat_map parts (range_with_len i (end - i)) ≡ whole → now ++ flat_map parts (range_with_len (i + 1) (end - (i + 1))) ≡ whole
+part_more parts had now whole i end less e h =
+    ap (λ (l : List _). l ++ flat_map parts (range_with_len (i + 1) (end - (i + 1)))) e
+    ∙ append_assoc had (parts i) _
+    ∙ sym (ap (λ (n : ℕ). had ++ flat_map parts (range_with_len i n)) (let s : end - i ≡ suc (end - (i + 1)) = omega arith in s))
+    ∙ h
+
+-- after the last part
+pub parts_all : {X : Type 0} (parts : ℕ → List X) (had whole : List X) (i end : ℕ) → end ≤ i → had ++ flat_map parts (range_with_len i (end - i)) ≡ whole → had ≡ whole
+parts_all parts had whole i end le h =
+    sym (append-nil had) ∙ sym (ap (λ (n : ℕ). had ++ flat_map parts (range_with_len i n)) (let z : end - i ≡ zero = omega arith in z)) ∙ h
+
+-- hits by start and length
+module _ {A X : Type 0} (f : A → List X) where
+  map_first : (g : ℕ → A) (ns : List ℕ) (more : List A) → flat_map f (map g ns ++ more) ≡ flat_map (λ n. f (g n)) ns ++ flat_map f more
+  map_first g [] more = refl
+  map_first g (n ∷ ns) more = ap (λ (l : List X). f (g n) ++ l) (map_first g ns more) ∙ sym (append_assoc (f (g n)) (flat_map (λ n. f (g n)) ns) (flat_map f more))
+
+  by_two : (g : ℕ → ℕ → A) (ns : ℕ → List ℕ) (starts : List ℕ) → flat_map f (flat_map (λ s. map (g s) (ns s)) starts) ≡ flat_map (λ s. flat_map (λ n. f (g s n)) (ns s)) starts
+  by_two g ns [] = refl
+  by_two g ns (s ∷ starts) = map_first (g s) (ns s) (flat_map (λ s. map (g s) (ns s)) starts) ∙ ap (λ (l : List X). flat_map (λ n. f (g s n)) (ns s) ++ l) (by_two g ns starts)
+
+-- the hits of a run are those of its starts
+pub all_hits : (rows : List Row) (run : List ℕ) → flat_map (hits_from rows run) (range_with_len 0 (length run)) ≡ hits_of rows run
+unfolding hits_of
+all_hits rows run = sym (by_two (hits_at rows run) interval (λ start. range_with_len 1 (min 11 (length run - start))) (range_with_len 0 (length run)))

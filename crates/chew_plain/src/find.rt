@@ -1,0 +1,46 @@
+ghost use Rattle.std.specs.Prelude.{◌≡◌};
+ghost use Rattle.std.specs.List.{find};
+ghost use Rattle.std.specs.Option.{option_map_or};
+ghost use Rattle.std.specs.Str.{bytes_eq};
+ghost use Rattle.chew_spec_syllable.specs.Row.{image_cmp};
+ghost use Rattle.chew_spec_dictionary.specs.Order.{in_order};
+ghost use Rattle.chew_spec_dictionary.specs.System.{rows_under};
+ghost use Rattle.chew_spec_dictionary.specs.System.{greatest};
+
+use crate::order::key_order;
+use chew_syllable::{KeyRow, Syllable};
+use std::cmp::max;
+
+/// The rows of a key among rows in image order, where they stand together.
+pub(crate) fn rows_at<'a>(rows: &'a [KeyRow], key: &[Syllable]) -> &'a [KeyRow]
+    requires { in_order image_cmp rows.now ≡ rows.now }
+    ensures { result.now ≡ rows_under rows.now key.now }
+{
+    let low = rows.partition_point(|row| key_order(row.key.list(), key).is_lt());
+    let rest = &rows[low..];
+    let count = rest.partition_point(|row| !key_order(key, row.key.list()).is_lt());
+    &rest[..count]
+}
+
+/// The frequency of the first of these rows that has the phrase, or 0.
+pub(crate) fn freq_among(rows: &[KeyRow], phrase: &str) -> u32
+    ensures { result ≡ option_map_or (λ row. row.freq) (find (λ row. bytes_eq row.phrase phrase.now) rows.now) 0 }
+{
+    for row in rows {
+        if row.phrase.text() == phrase {
+            return row.freq;
+        }
+    }
+    0
+}
+
+/// The greatest frequency of these rows, or 0.
+pub(crate) fn peak_among(rows: &[KeyRow]) -> u32
+    ensures { result ≡ greatest rows.now }
+{
+    let mut peak = 0;
+    for row in rows {
+        peak = max(peak, row.freq);
+    }
+    peak
+}

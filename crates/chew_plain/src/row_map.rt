@@ -1,0 +1,74 @@
+ghost use Rattle.std.specs.Prelude.{◌≡◌, ◌<◌, ◌^◌, IsTrue, IfOk, length};
+ghost use Rattle.chew_spec_syllable.specs.Row.{no_pair_twice, image_cmp};
+ghost use Rattle.chew_spec_dictionary.specs.Order.{in_order};
+ghost use Rattle.chew_spec_dictionary.specs.System.{rows_of, rows_under};
+
+use crate::find::{freq_among, peak_among, rows_at};
+use crate::lexicon::{Lexicon, RowRef};
+use crate::order::sort_rows;
+use chew_syllable::{KeyRow, NoMemory, Syllable};
+use std::marker::Model;
+
+/// Rows in image order, in memory: by the length of the key, then its syllables, then the phrase's bytes.
+#[derive(Debug, Drop)]
+pub struct RowMap {
+    rows: Vec<KeyRow>,
+}
+
+impl Model for RowMap {
+    ghost use Rattle.std.specs.Prelude.{◌≡◌, ◌<◌, ◌^◌, List, length};
+    ghost use Rattle.chew_spec_syllable.specs.Row.{Row, image_cmp};
+    ghost use Rattle.chew_spec_dictionary.specs.Order.{in_order};
+
+    ghost Value = { List Row };
+
+    ghost view = { λ map. map.rows.items };
+
+    ghost invariant = { λ map. (in_order image_cmp map.rows.items ≡ map.rows.items) × (length map.rows.items < 2 ^ 32) };
+}
+
+impl RowMap {
+    /// The rows, put in image order.
+    pub fn of(mut rows: Vec<KeyRow>) -> Result<RowMap, NoMemory>
+        requires pairs { IsTrue (no_pair_twice rows.items) }
+        requires few { length rows.items < 2 ^ 32 }
+        ensures { IfOk result (λ map. map ≡ in_order image_cmp rows.items) }
+    {
+        sort_rows(&mut rows)?;
+        Ok(RowMap { rows })
+    }
+
+    fn found(&self, key: &[Syllable]) -> &[KeyRow]
+        ensures value { result.now ≡ rows_of self.now key.now }
+        ensures under { result.now ≡ rows_under self.now key.now }
+        ensures few { length result.now < 2 ^ 32 }
+    {
+        rows_at(self.rows.as_slice(), key)
+    }
+}
+
+impl Lexicon for RowMap {
+    ghost rows = { λ map. map };
+
+    fn count(&self, key: &[Syllable]) -> u32 {
+        self.found(key).len() as u32
+    }
+
+    fn row(&self, key: &[Syllable], i: u32) -> RowRef<'_> {
+        let row = &self.found(key)[i as usize];
+        RowRef {
+            phrase: row.phrase.text(),
+            freq: row.freq,
+            time: row.time,
+        }
+    }
+
+    fn has_single(&self, s: Syllable) -> bool {
+        !self.found(&[s]).is_empty()
+    }
+
+    fn orig_and_peak(&self, key: &[Syllable], phrase: &str) -> (u32, u32) {
+        let found = self.found(key);
+        (freq_among(found, phrase), peak_among(found))
+    }
+}
