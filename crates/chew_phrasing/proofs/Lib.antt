@@ -1,0 +1,4 @@
+pub mod Combining
+pub mod Searching
+pub mod Texts
+pub mod Totals

@@ -1,0 +1,55 @@
+ghost use Rattle.std.specs.Prelude.{◌≡◌};
+
+use chew_syllable::Phrase;
+use std::marker::Model;
+
+/// A phrase that the user chose for the cells of a run from `start` on, one cell a character.
+#[derive(Debug, Drop)]
+pub struct Choice {
+    /// The run's cell that has the first character.
+    pub start: u8,
+    /// What stands there.
+    pub phrase: Phrase,
+    /// The combined frequency that the phrase had when it was chosen.
+    pub freq: u32,
+}
+
+impl Model for Choice {
+    ghost use Rattle.chew_spec_phrasing.specs.Usable as spec;
+
+    ghost Value = { spec.Choice };
+
+    ghost view = { λ choice. record { start = choice.start; phrase = choice.phrase; freq = choice.freq } };
+}
+
+/// A phrase that is shown for the cells of a run from `start` on, one cell a character.
+#[derive(Debug, Drop)]
+pub struct Piece {
+    /// The run's cell that has the first character.
+    pub start: u8,
+    /// What stands there.
+    pub phrase: Phrase,
+    /// That of its row or its choice.
+    pub freq: u32,
+}
+
+impl Model for Piece {
+    ghost use Rattle.chew_spec_phrasing.specs.Usable as spec;
+
+    ghost Value = { spec.Piece };
+
+    ghost view = { λ piece. record { start = piece.start; phrase = piece.phrase; freq = piece.freq } };
+}
+
+impl Piece {
+    /// The same piece once more. It takes no memory.
+    pub fn copy(&self) -> Piece
+        ensures { result ≡ self.now }
+    {
+        Piece {
+            start: self.start,
+            phrase: self.phrase.copy(),
+            freq: self.freq,
+        }
+    }
+}
