@@ -1,0 +1,4 @@
+pub mod Finished
+pub mod Lines
+pub mod Proper
+pub mod Singles

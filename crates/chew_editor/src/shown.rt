@@ -1,0 +1,56 @@
+ghost use Rattle.std.specs.Prelude.{◌≡◌, ◌≤◌, IfOk, chars, false, length, string_bytes};
+ghost use Rattle.unicode_width.specs.Width.{str_width};
+ghost use Rattle.chew_editor.specs.Kept.{CoverCells, most_cells};
+ghost use Rattle.chew_editor.specs.Notes.{note_of};
+ghost use Rattle.chew_editor.specs.Shown.{line_at_end, text_of_pieces};
+
+use crate::line::{Line, Note};
+use crate::text::Text;
+use chew_layout_table::Direct;
+use chew_phrasing::Piece;
+use chew_syllable::NoMemory;
+use std::alloc::Global;
+use unicode_width::UnicodeWidthStr;
+
+/// The text of the pieces.
+pub(crate) fn shown_text(alloc: Global, pieces: &[Piece]) -> Result<String, NoMemory>
+    ensures { IfOk result (λ text. string_bytes text ≡ text_of_pieces pieces.now) }
+{
+    let mut text = String::new(alloc);
+    for piece in pieces {
+        text.push_str(piece.phrase.text())?;
+    }
+    Ok(text)
+}
+
+/// The columns that a short text takes.
+fn column_of(text: &str) -> u32
+    requires { length text.now ≤ 40 }
+    ensures { result ≡ str_width false (chars text.now) }
+{
+    text.width() as u32
+}
+
+/// The line that shows pieces of no more than 40 bytes and the layout, with the cursor behind the pieces.
+pub(crate) fn line_at_end(
+    alloc: Global,
+    layout: &Direct,
+    pieces: &[Piece],
+    commit: Text,
+    note: Note,
+) -> Result<Line, NoMemory>
+    requires { length (text_of_pieces pieces.now) ≤ 40 }
+    ensures { IfOk result (λ line. line ≡ line_at_end layout.now.held pieces.now commit (note_of note)) }
+{
+    let preedit = shown_text(alloc, pieces)?;
+    let column = column_of(preedit.as_str());
+    let held = Vec::from_slice(alloc, layout.shown().as_str().as_bytes())?;
+    Ok(Line {
+        preedit: Text::of(preedit.into_bytes()),
+        column,
+        held: Text::of(held),
+        commit,
+        window: Text::new(alloc),
+        note,
+    })
+}
