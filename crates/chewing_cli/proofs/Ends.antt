@@ -1,0 +1,185 @@
+-- How a run ends.
+use Rattle.std.specs.Prelude.{◌≡◌, ◌≢◌, ◌⊎◌, ℕ, ◌+◌, ◌≤◌, Bool, true, false, List, [], ◌∷◌, ◌++◌, length, take, All}
+use Rattle.std.specs.Option.{option_map}
+use Rattle.std.proofs.Common.{refl, ap, sym, subst, inl, inr, ◌∙◌, arith, cond}
+use Rattle.std.proofs.lemmas.List.{length-append, take-append-le}
+use Rattle.chew_spec_outside.specs.Faults.{Rose}
+use Rattle.chew_spec_outside.specs.Sink.{appended}
+use Rattle.chew_spec_dictionary.specs.History.{Point}
+use Rattle.chew_spec_editor.specs.Context.{HandleAll, IsFront}
+use Rattle.chew_spec_editor.specs.Editor.{Settings}
+use Rattle.chew_spec_editor.specs.Program.{Ended, IsOfContext, IsSilent, IsTalk, Sunk, Took}
+use Rattle.chew_spec_text.specs.Line.{Line}
+use Rattle.chew_spec_text.specs.Output.{Refusal, WrongWords, WrongInput, SourceFailed, NoMemory, output, refusal_line, refusal_status}
+use Rattle.chew_spec_text.specs.Run.{Inputs}
+use Rattle.chewing_cli.specs.Progress.{Progress, RanAll}
+use Rattle.chewing_cli.specs.Runs.{Runs}
+use Rattle.chewing_cli.proofs.Contexts.{as_many}
+
+-- the status of a run that was not refused before its first key
+abbrev pub run_status : Bool → Bool → ℕ
+run_status taken refused = cond taken (cond refused 10 0) 8
+
+-- a front of a text that the sink took
+front_took : (text rest : List ℕ) (count : ℕ) → count ≤ length text → take count text ≡ take count (text ++ rest)
+front_took text rest count within = sym (take-append-le count text rest within)
+
+took_front : (sink : Sunk) (text whole : List ℕ) (all : Type 0) → Took sink (Unit {0}) text → IsFront text whole
+    → (all → (Rose sink.faults_before sink.faults_now → ⊥) → text ≡ whole) → Took sink all whole
+took_front sink text whole all took front reaches =
+    let longer : length whole ≡ length text + length front.rest = ap length front.joined ∙ length-append text front.rest in
+    let within : took.count ≤ length text = took.within in
+    let same : take took.count text ≡ take took.count whole = front_took text front.rest took.count within ∙ ap (take took.count) (sym front.joined) in
+    record {
+      count = took.count;
+      within = omega arith;
+      front = took.front ∙ ap (λ (l : List ℕ). option_map (λ had. had ++ l) sink.before) same;
+      all = λ a calm. took.all tt calm ∙ ap length (reaches a calm);
+    }
+
+-- where the status is not 10 and the sink's count did not rise, all was printed
+whole_text : (taken refused : Bool) (text whole : List ℕ) (rose : Type 0) → (taken ≡ false → rose) → (refused ≡ false → text ≡ whole)
+    → run_status taken refused ≢ 10 → (rose → ⊥) → text ≡ whole
+whole_text true true text whole rose failed clear apart calm = absurd (apart refl)
+whole_text true false text whole rose failed clear apart calm = clear refl
+whole_text false refused text whole rose failed clear apart calm = absurd (calm (failed refl))
+
+-- the statuses
+is_run_status : (taken refused : Bool) → (run_status taken refused ≡ 10) ⊎ ((run_status taken refused ≡ 0) ⊎ (run_status taken refused ≡ 8))
+is_run_status true true = inl refl
+is_run_status true false = inr (inl refl)
+is_run_status false refused = inr (inr refl)
+
+eight_failed : (taken refused : Bool) → run_status taken refused ≡ 8 → taken ≡ false
+eight_failed true true e = absurd (omega arith)
+eight_failed true false e = absurd (omega arith)
+eight_failed false refused e = refl
+
+zero_taken : (taken refused : Bool) → run_status taken refused ≡ 0 → taken ≡ true
+zero_taken true refused e = refl
+zero_taken false refused e = absurd (omega arith)
+
+zero_whole : (taken refused : Bool) → run_status taken refused ≡ 0 → refused ≡ false
+zero_whole true true e = absurd (omega arith)
+zero_whole true false e = refl
+zero_whole false refused e = absurd (omega arith)
+
+no_refusal : (taken refused : Bool) (refusal : Refusal) → refused ≡ false → run_status taken refused ≡ refusal_status refusal → ⊥
+no_refusal true true refusal clear e = cc
+no_refusal true false WrongWords clear e = omega arith
+no_refusal true false WrongInput clear e = omega arith
+no_refusal true false SourceFailed clear e = omega arith
+no_refusal true false NoMemory clear e = omega arith
+no_refusal false refused WrongWords clear e = omega arith
+no_refusal false refused WrongInput clear e = omega arith
+no_refusal false refused SourceFailed clear e = omega arith
+no_refusal false refused NoMemory clear e = omega arith
+
+-- a list as long as one without elements has none
+none_by_length : {X Y : Type 0} (xs : List X) (ys : List Y) → length xs ≡ length ys → xs ≡ [] → ys ≡ []
+none_by_length xs [] same e = refl
+none_by_length xs (y ∷ ys) same e = absurd (let none = ap length e in omega arith)
+
+no_lines : (lines : List (List Line)) → length lines ≡ 0 → output lines ≡ []
+no_lines [] e = refl
+no_lines (l ∷ lines) e = absurd (omega arith)
+
+-- how a run ends whose contexts ran
+module _ (inputs : Inputs) (settings : Settings) (start : Point) (sink : Sunk) (now : Progress) (counts : List ℕ) (taken : Bool) (ended : Ended)
+    (all : RanAll (record { system = inputs.system; settings = settings; start = start }) inputs.contexts now counts)
+    (took : Took sink (Unit {0}) now.text) (failed : taken ≡ false → Rose sink.faults_before sink.faults_now) (cut : taken ≡ false → now.text ≢ [])
+    (worked : taken ≡ true → sink.faults_now ≡ sink.faults_before) (sent : taken ≡ true → sink.now ≡ appended sink.before now.text)
+    (is : ended ≡ record { status = run_status taken now.refused; journal = now.journal; handled = counts }) where
+  status_is : ended.status ≡ run_status taken now.refused
+  status_is = ap (λ (e : Ended). e.status) is
+
+  handled_is : ended.handled ≡ counts
+  handled_is = ap (λ (e : Ended). e.handled) is
+
+  many : (length all.lines ≡ length inputs.contexts) × (length counts ≡ length inputs.contexts)
+  many = as_many (record { system = inputs.system; settings = settings; start = start }) now.journal 1 inputs.contexts counts all.lines all.all
+
+  no_contexts : ended.handled ≡ [] → inputs.contexts ≡ []
+  no_contexts none = none_by_length counts inputs.contexts many.1 (sym handled_is ∙ none)
+
+  talks : IsTalk inputs settings start sink ended
+  talks = record {
+    lines = all.lines;
+    contexts = subst (λ (e : Ended). HandleAll (record { system = inputs.system; settings = settings; start = start }) e.journal 1 inputs.contexts e.handled all.lines) (sym is) all.all;
+    took = took_front sink now.text (output all.lines) (ended.status ≢ 10) took all.front
+        (λ apart calm. whole_text taken now.refused now.text (output all.lines) (Rose sink.faults_before sink.faults_now) failed (λ e. (all.whole e).0)
+        (λ ten. apart (status_is ∙ ten)) calm);
+    numbers = subst (λ (e : Ended). All (IsOfContext (length inputs.contexts)) e.journal) (sym is) all.numbers;
+    all_handled = λ zero. handled_is ∙ (all.whole (zero_whole taken now.refused (sym status_is ∙ zero))).1;
+    all_taken = λ zero. sent (zero_taken taken now.refused (sym status_is ∙ zero))
+        ∙ ap (λ (text : List ℕ). appended sink.before text) (all.whole (zero_whole taken now.refused (sym status_is ∙ zero))).0;
+  }
+
+  silent : ended.handled ≡ [] → IsSilent sink ended
+  silent none =
+      let quiet = all.silent (no_contexts none) in
+      let no_text : now.text ≡ [] = (all.whole quiet.1).0 ∙ no_lines all.lines (many.0 ∙ ap length (no_contexts none)) in
+      record {
+        no_call = ap (λ (e : Ended). e.journal) is ∙ quiet.0;
+        not_cut = λ e. cut (eight_failed taken now.refused (sym status_is ∙ e)) no_text;
+        nothing = λ _. subst (Took sink (Unit {0})) no_text took;
+        line = λ refusal e. absurd (no_refusal taken now.refused refusal quiet.1 (sym status_is ∙ e));
+      }
+
+  pub runs_talked : Runs inputs settings start sink ended
+  runs_talked = record {
+    status = subst (λ (s : ℕ). (s ≡ 10) ⊎ ((s ≡ 0) ⊎ (s ≡ 8))) (sym status_is) (is_run_status taken now.refused);
+    sink_failed = λ e. failed (eight_failed taken now.refused (sym status_is ∙ e));
+    sink_worked = λ e. worked (zero_taken taken now.refused (sym status_is ∙ e));
+    silent = silent;
+    talked = λ _. talks;
+    begun = λ some none. absurd (some (no_contexts none));
+  }
+
+-- each refusal has a status of its own
+status_same : (a b : Refusal) → refusal_status a ≡ refusal_status b → a ≡ b
+status_same WrongWords WrongWords e = refl
+status_same WrongWords WrongInput e = absurd (omega arith)
+status_same WrongWords SourceFailed e = absurd (omega arith)
+status_same WrongWords NoMemory e = absurd (omega arith)
+status_same WrongInput WrongWords e = absurd (omega arith)
+status_same WrongInput WrongInput e = refl
+status_same WrongInput SourceFailed e = absurd (omega arith)
+status_same WrongInput NoMemory e = absurd (omega arith)
+status_same SourceFailed WrongWords e = absurd (omega arith)
+status_same SourceFailed WrongInput e = absurd (omega arith)
+status_same SourceFailed SourceFailed e = refl
+status_same SourceFailed NoMemory e = absurd (omega arith)
+status_same NoMemory WrongWords e = absurd (omega arith)
+status_same NoMemory WrongInput e = absurd (omega arith)
+status_same NoMemory SourceFailed e = absurd (omega arith)
+status_same NoMemory NoMemory e = refl
+
+-- no refusal has the status 0 or 8
+pub refusal_apart : (refusal : Refusal) → (refusal_status refusal ≡ 0 → ⊥) × (refusal_status refusal ≡ 8 → ⊥)
+refusal_apart WrongWords = (λ e. omega arith, λ e. omega arith)
+refusal_apart WrongInput = (λ e. omega arith, λ e. omega arith)
+refusal_apart SourceFailed = (λ e. omega arith, λ e. omega arith)
+refusal_apart NoMemory = (λ e. omega arith, λ e. omega arith)
+
+-- a run that was refused handled no key
+pub silent_refused : (refusal : Refusal) (sink : Sunk) (ended : Ended) → ended.journal ≡ [] → ended.status ≡ refusal_status refusal
+    → Took sink (Unit {0}) (refusal_line refusal) → IsSilent sink ended
+silent_refused refusal sink ended journal status took = record {
+  no_call = journal;
+  not_cut = λ e. (refusal_apart refusal).1 (sym status ∙ e);
+  nothing = λ e. absurd ((refusal_apart refusal).0 (sym status ∙ e));
+  line = λ other e. subst (λ (r : Refusal). Took sink (Unit {0}) (refusal_line r)) (status_same refusal other (sym status ∙ e)) took;
+}
+
+-- how a run ends that was refused memory before its first key
+pub runs_refused : (inputs : Inputs) (settings : Settings) (start : Point) (sink : Sunk) (ended : Ended) → ended.status ≡ 10 → ended.journal ≡ [] → ended.handled ≡ []
+    → Took sink (Unit {0}) (refusal_line NoMemory) → Runs inputs settings start sink ended
+runs_refused inputs settings start sink ended status journal handled took = record {
+  status = inl status;
+  sink_failed = λ e. absurd (omega arith);
+  sink_worked = λ e. absurd (omega arith);
+  silent = λ _. silent_refused NoMemory sink ended journal status took;
+  talked = λ some. absurd (some handled);
+  begun = λ _ _. status;
+}

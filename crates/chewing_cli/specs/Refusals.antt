@@ -1,0 +1,16 @@
+-- The refusals and outcomes of the definitions that the code's stand for.
+use Rattle.std.specs.Prelude.{Result, Ok, Err}
+use Rattle.chew_spec_text.specs.Output as spec
+use Rattle.chewing_cli.specs.declared.refusal.Refusal.{Refusal}
+use Rattle.chewing_cli.specs.declared.refusal.Refusal.TheVariants.{WrongWords, WrongInput, SourceFailed, NoMemory}
+
+abbrev pub kind_of : Refusal → spec.Refusal
+kind_of WrongWords = spec.WrongWords
+kind_of WrongInput = spec.WrongInput
+kind_of SourceFailed = spec.SourceFailed
+kind_of NoMemory = spec.NoMemory
+
+-- an outcome, with its value seen this way
+abbrev pub outcome_of : {X Y : Type 0} → (X → Y) → Result X Refusal → Result Y spec.Refusal
+outcome_of view (Ok value) = Ok (view value)
+outcome_of view (Err refusal) = Err (kind_of refusal)
