@@ -1,0 +1,7 @@
+//! Tests that cross crates: runs of the program over objects in memory.
+#![tactic(auto)]
+
+#[cfg(test)]
+mod faults;
+#[cfg(test)]
+mod first_path;
