@@ -20,10 +20,10 @@ pub struct Direct {
 
 impl Model for Direct {
     ghost use Rattle.chew_spec_layout.specs.Held.{IsHeld};
-    ghost use Rattle.chew_spec_layout.specs.Table.{Layout};
+    ghost use Rattle.chew_spec_layout.specs.Table.{Direct as Held};
     ghost use Rattle.chew_layout_table.specs.Tables.{table_of};
 
-    ghost Value = { Layout };
+    ghost Value = { Held };
 
     ghost view = { λ a. record { table = table_of a.table; held = a.held } };
 

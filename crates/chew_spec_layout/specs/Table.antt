@@ -45,8 +45,8 @@ nothing_held = record { initial = 0; medial = 0; final = 0; tone = 0 }
 abbrev pub holds_something : Parts → Bool
 holds_something held = nat_lt 0 (held.initial + held.medial + held.final)
 
--- a layout of this kind, and what it holds
-pub record Layout : Type 0 where
+-- one of the two layouts, and what it holds
+pub record Direct : Type 0 where
   pub table : Table
   pub held : Parts
 
