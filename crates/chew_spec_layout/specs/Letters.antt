@@ -73,7 +73,7 @@ is_front medial = medial == 1 || (medial == 3)
 abbrev pub initial_of : Columns → ℕ → ℕ → ℕ
 initial_of columns medial letter =
     unwrap_or (find (λ number. if is_front medial then is_palatal number else not (is_palatal number)) (numbers_of columns.initials letter))
-        (number_of columns.initials letter)
+    (number_of columns.initials letter)
 
 -- the letter is the only one, and it is taken for a final
 abbrev pub is_final_alone : Taken → Bool

@@ -3,7 +3,7 @@ use Rattle.std.proofs.Common.{refl}
 use lib.Utf8.{encode}
 use Rattle.chew_spec_syllable.specs.SyllableText.{text_of}
 use Rattle.chew_spec_layout.specs.Table.{fed}
-use Rattle.chew_spec_layout.proofs.laws.standard_keyboard.Goals as goal
+use Rattle.chew_spec_layout.proofs.laws.table.standard_keyboard.Goals as goal
 
 pub returns-clause-digits : goal.returns-clause-digits
 unfolding fed text_of encode

@@ -1,6 +1,6 @@
 -- By the outcomes of a key.
 use Rattle.chew_spec_layout.proofs.Fed.{empties}
-use Rattle.chew_spec_layout.proofs.laws.whole_empties.Goals as goal
+use Rattle.chew_spec_layout.proofs.laws.table.whole_empties.Goals as goal
 
 pub returns : goal.returns
 returns c = empties

@@ -1,7 +1,7 @@
 -- Each value computes.
 use Rattle.std.proofs.Common.{refl}
 use Rattle.chew_spec_layout.specs.Table.{fed}
-use Rattle.chew_spec_layout.proofs.laws.known_steps.Goals as goal
+use Rattle.chew_spec_layout.proofs.laws.table.known_steps.Goals as goal
 
 pub returns-clause-ce : goal.returns-clause-ce
 unfolding fed

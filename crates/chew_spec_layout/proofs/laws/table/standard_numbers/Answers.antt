@@ -1,7 +1,7 @@
 -- Each value computes.
 use Rattle.std.proofs.Common.{refl}
 use Rattle.chew_spec_layout.specs.Table.{fed}
-use Rattle.chew_spec_layout.proofs.laws.standard_numbers.Goals as goal
+use Rattle.chew_spec_layout.proofs.laws.table.standard_numbers.Goals as goal
 
 pub returns-clause-initials : goal.returns-clause-initials
 unfolding fed
