@@ -3,7 +3,8 @@ use Rattle.std.specs.Prelude.{◌≡◌, ℕ, suc, ◌≤◌, List, [], ◌∷�
 use Rattle.chew_spec_syllable.specs.Row.{Row}
 use Rattle.chew_spec_dictionary.specs.Call.{Call}
 use Rattle.chew_spec_dictionary.specs.History.{Entry, Point, calls_of, replies}
-use Rattle.chew_spec_text.specs.Line.{KeyStroke, Line}
+use Rattle.chew_spec_text.specs.KeyStroke.{KeyStroke}
+use Rattle.chew_spec_text.specs.Line.{Line}
 use Rattle.chew_spec_editor.specs.Editor.{Settings, Editor, empty_editor}
 use Rattle.chew_spec_editor.specs.Keys.{calls_asked}
 use Rattle.chew_spec_editor.specs.Left.{left_from}
@@ -23,7 +24,7 @@ talk_in ground journal who keys = talk ground.system ground.settings keys (repli
 -- the editor after these keys
 abbrev pub editor_after : Ground → List Entry → ℕ → List KeyStroke → Editor
 editor_after ground journal who keys =
-    (left_from ground.system ground.settings empty_editor keys (replies ground.start journal who)).editor
+    (left_from ground.system ground.settings (empty_editor ground.settings) keys (replies ground.start journal who)).editor
 
 -- the calls that the first of these keys asks
 abbrev pub next_calls : Ground → Editor → List KeyStroke → List Call

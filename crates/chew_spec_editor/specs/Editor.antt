@@ -2,21 +2,20 @@
 -- no cell is a symbol, and the cursor stays behind the cells.
 use Rattle.std.specs.Prelude.{ℕ, List, [], flat_map, take, chars, false}
 use Rattle.unicode_width.specs.Width.{str_width}
-use Rattle.chew_spec_syllable.specs.Syllable.{Parts}
-use Rattle.chew_spec_syllable.specs.SyllableText.{text_of}
-use Rattle.chew_spec_layout.specs.Table.{nothing_held}
+use Rattle.chew_spec_layout.specs.Layout.{Kind, Layout, new_layout, shown}
 use Rattle.chew_spec_phrasing.specs.Usable.{Piece}
 use Rattle.chew_spec_text.specs.Line.{Line, Note}
 
 -- what the user may set
 pub record Settings : Type 0 where
+  pub layout : Kind
   -- the most cells that the pre-edit buffer holds
   pub buffer : ℕ
 
--- what the layout holds, the syllables of the pre-edit buffer by their codes, the place of the cursor among
+-- the layout and what it holds, the syllables of the pre-edit buffer by their codes, the place of the cursor among
 -- them, and the pieces that are shown for them
 pub record Editor : Type 0 where
-  pub held : Parts
+  pub layout : Layout
   pub cells : List ℕ
   pub cursor : ℕ
   pub pieces : List Piece
@@ -27,8 +26,8 @@ pub record Configured : Type 0 where
   pub editor : Editor
 
 -- nothing held and no cell
-abbrev pub empty_editor : Editor
-empty_editor = record { held = nothing_held; cells = []; cursor = 0; pieces = [] }
+abbrev pub empty_editor : Settings → Editor
+empty_editor settings = record { layout = new_layout settings.layout; cells = []; cursor = 0; pieces = [] }
 
 -- the pre-edit text
 abbrev pub shown_text : Editor → List ℕ
@@ -43,7 +42,7 @@ abbrev pub line_of : Editor → List ℕ → Note → Line
 line_of editor commit note = record {
   preedit = shown_text editor;
   column = column_of editor;
-  held = text_of editor.held;
+  held = shown editor.layout;
   commit = commit;
   window = [];
   note = note;

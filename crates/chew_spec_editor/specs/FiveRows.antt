@@ -2,6 +2,7 @@
 use Rattle.std.specs.Prelude.{ℕ, List, [], ◌∷◌, codes}
 use Rattle.std.specs.Str.{encode_utf8_all}
 use Rattle.chew_spec_syllable.specs.Row.{Row}
+use Rattle.chew_spec_layout.specs.Layout.{Standard}
 use Rattle.chew_spec_editor.specs.Editor.{Settings}
 
 -- the syllables ㄘㄜˋ and ㄕˋ
@@ -25,6 +26,6 @@ five_rows =
     ∷ (row_at_start (ce4 ∷ (shi4 ∷ [])) (encode_utf8_all (codes "測試")) 9318
     ∷ []))))
 
--- a buffer of ten cells
+-- the default layout and a buffer of ten cells
 abbrev pub ten_cells : Settings
-ten_cells = record { buffer = 10 }
+ten_cells = record { layout = Standard; buffer = 10 }

@@ -1,9 +1,9 @@
 -- Words for what is said of a key.
 use Rattle.std.specs.Prelude.{Bool, true, false, List, []}
 use Rattle.chew_spec_layout.specs.Step.{Step, Whole}
-use Rattle.chew_spec_layout.specs.Table.{fed, columns_of, Standard}
+use Rattle.chew_spec_layout.specs.Layout.{feed}
 use Rattle.chew_spec_dictionary.specs.Call.{Call}
-use Rattle.chew_spec_text.specs.Line.{KeyStroke, Char, Enter}
+use Rattle.chew_spec_text.specs.KeyStroke.{KeyStroke, Char}
 use Rattle.chew_spec_editor.specs.Editor.{Editor}
 use Rattle.chew_spec_editor.specs.Press.{Pressed, Done, Ask}
 
@@ -19,5 +19,5 @@ is_whole _ = false
 
 -- the key makes what the layout holds a whole syllable
 abbrev pub completes : Editor → KeyStroke → Bool
-completes editor (Char byte) = is_whole (fed (columns_of Standard) editor.held byte).step
-completes editor Enter = false
+completes editor (Char byte) = is_whole (feed editor.layout byte).step
+completes editor _ = false

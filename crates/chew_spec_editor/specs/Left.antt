@@ -3,7 +3,7 @@ use Rattle.std.specs.Prelude.{List, [], ◌∷◌, ◌++◌, length, drop}
 use Rattle.std.specs.Option.{option_map_or}
 use Rattle.chew_spec_syllable.specs.Row.{Row}
 use Rattle.chew_spec_dictionary.specs.Call.{Reply}
-use Rattle.chew_spec_text.specs.Line.{KeyStroke}
+use Rattle.chew_spec_text.specs.KeyStroke.{KeyStroke}
 use Rattle.chew_spec_editor.specs.Editor.{Settings, Editor}
 use Rattle.chew_spec_editor.specs.Talk.{Talk, turn_of}
 

@@ -3,11 +3,13 @@
 use Rattle.std.specs.Prelude.{ℕ, suc, ◌&&◌, List, [], ◌∷◌, ◌++◌, length, take, drop, nat_lt, ◌==◌, if◌then◌else◌}
 use Rattle.chew_spec_syllable.specs.Row.{Row}
 use Rattle.chew_spec_layout.specs.Step.{Step, Kept, Whole, Refused, Erased, NotMine}
-use Rattle.chew_spec_layout.specs.Table.{fed, columns_of, holds_something, Standard}
+use Rattle.chew_spec_layout.specs.Layout.{cleared, feed, holds}
+use Rattle.chew_spec_layout.specs.Table.{backspace}
 use Rattle.chew_spec_dictionary.specs.Call.{Call, Look}
 use Rattle.chew_spec_dictionary.specs.System.{has_single}
-use Rattle.chew_spec_text.specs.Line.{KeyStroke, Char, Enter, Line, Quiet, Bell}
-use Rattle.chew_spec_editor.specs.Editor.{Settings, Editor, empty_editor, line_of, shown_text}
+use Rattle.chew_spec_text.specs.KeyStroke.{KeyStroke, Char, Enter, Backspace, Esc}
+use Rattle.chew_spec_text.specs.Line.{Line, Quiet, Bell}
+use Rattle.chew_spec_editor.specs.Editor.{Settings, Editor, line_of, shown_text}
 
 -- an editor whose key asked calls, before their replies
 pub record Pending : Type 0 where
@@ -60,17 +62,28 @@ after_step system settings editor NotMine = bell editor
 -- a character goes to the layout
 abbrev pub press_char : List Row → Settings → Editor → ℕ → Pressed
 press_char system settings editor byte =
-    let turn = fed (columns_of Standard) editor.held byte in
-    after_step system settings (record editor { held = turn.held }) turn.step
+    let turn = feed editor.layout byte in
+    after_step system settings (record editor { layout = turn.layout }) turn.step
+
+-- without its cells
+abbrev pub emptied : Editor → Editor
+emptied editor = record editor { cells = []; cursor = 0; pieces = [] }
 
 -- Enter commits all text and empties the buffer; nothing is learnt, for now
 abbrev pub press_enter : Editor → Pressed
 press_enter editor =
-    if holds_something editor.held then bell editor
+    if holds editor.layout then bell editor
     else if length editor.cells == 0 then bell editor
-    else Done empty_editor (line_of empty_editor (shown_text editor) Quiet)
+    else Done (emptied editor) (line_of (emptied editor) (shown_text editor) Quiet)
 
--- what a key does
+-- Esc clears the layout where it holds something; nothing else, for now
+abbrev pub press_esc : Editor → Pressed
+press_esc editor = if holds editor.layout then quiet (record editor { layout = cleared editor.layout }) else bell editor
+
+-- what a key does; Backspace erases in the layout alone, and the keys that aren't named here ring, for now
 unfoldable pub press : List Row → Settings → Editor → KeyStroke → Pressed
 press system settings editor (Char byte) = press_char system settings editor byte
 press system settings editor Enter = press_enter editor
+press system settings editor Backspace = press_char system settings editor backspace
+press system settings editor Esc = press_esc editor
+press system settings editor _ = bell editor

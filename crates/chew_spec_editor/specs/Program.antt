@@ -1,10 +1,10 @@
 -- What a run of the program is, from the bytes that come in to the bytes that go out.
-use Rattle.std.specs.Prelude.{◌≡◌, ◌≢◌, ℕ, ◌≤◌, List, [], length, take, map, All, Option, Ok}
+use Rattle.std.specs.Prelude.{◌≡◌, ◌≢◌, ℕ, ◌≤◌, ◌<◌, List, [], length, take, map, All, Option, Result, Ok, Err}
 use Rattle.chew_spec_outside.specs.Faults.{Rose}
 use Rattle.chew_spec_outside.specs.Sink.{appended}
 use Rattle.chew_spec_dictionary.specs.History.{Entry, Point}
 use Rattle.chew_spec_text.specs.Line.{Line}
-use Rattle.chew_spec_text.specs.Output.{Refusal, output, refusal_line, refusal_status}
+use Rattle.chew_spec_text.specs.Output.{Refusal, NoMemory, output, refusal_line, refusal_status}
 use Rattle.chew_spec_text.specs.Run.{Inputs, IsStatus, Texts, Watched, opening}
 use Rattle.chew_spec_editor.specs.Context.{HandleAll}
 use Rattle.chew_spec_editor.specs.Editor.{Settings}
@@ -29,12 +29,14 @@ pub record Ended : Type 0 where
   pub journal : List Entry
   pub handled : List ℕ
 
--- a run that handled no key: no call was made, and the sink took nothing, or the line of the refusal
-pub record IsSilent (sink : Sunk) (ended : Ended) : Type 0 where
+-- a run that handled no key: no call was made, and the sink took nothing, the line of the refusal, or that of a want
+-- of memory
+pub record IsSilent (opened : Result Inputs Refusal) (sink : Sunk) (ended : Ended) : Type 0 where
   pub no_call : ended.journal ≡ []
   pub not_cut : ended.status ≢ 8
   pub nothing : ended.status ≡ 0 → Took sink (Unit {0}) []
-  pub line : (refusal : Refusal) → ended.status ≡ refusal_status refusal → Took sink (Unit {0}) (refusal_line refusal)
+  pub memory : ended.status ≡ 10 → Took sink (Unit {0}) (refusal_line NoMemory)
+  pub line : (refusal : Refusal) → opened ≡ Err refusal → ended.status ≡ refusal_status refusal → Took sink (Unit {0}) (refusal_line refusal)
 
 -- the entry was made by one of so many contexts
 pub record IsOfContext (contexts : ℕ) (entry : Entry) : Type 0 where
@@ -42,7 +44,8 @@ pub record IsOfContext (contexts : ℕ) (entry : Entry) : Type 0 where
   pub within : entry.who ≤ contexts
 
 -- a run over these inputs: each context has the lines of its talk, every call is one of theirs, and the sink took a
--- front of all lines, in their order; with status 10 it may be cut short, and with status 0 it took them all
+-- front of all lines, in their order; with status 10 it may be cut short, with status 0 it took them all, and with status 8
+-- not all
 pub record IsTalk (inputs : Inputs) (settings : Settings) (start : Point) (sink : Sunk) (ended : Ended) : Type 0 where
   pub lines : List (List Line)
   pub contexts : HandleAll (record { system = inputs.system; settings = settings; start = start })
@@ -51,6 +54,7 @@ pub record IsTalk (inputs : Inputs) (settings : Settings) (start : Point) (sink 
   pub took : Took sink (ended.status ≢ 10) (output lines)
   pub all_handled : ended.status ≡ 0 → ended.handled ≡ map length inputs.contexts
   pub all_taken : ended.status ≡ 0 → sink.now ≡ appended sink.before (output lines)
+  pub cut : ended.status ≡ 8 → took.count < length (output lines)
 
 -- a run of the program with these words
 pub record IsRun (words : List (List ℕ)) (settings : Settings) (start : Point) (system script : Watched) (sink : Sunk) (ended : Ended) : Type 0 where
@@ -58,7 +62,7 @@ pub record IsRun (words : List (List ℕ)) (settings : Settings) (start : Point)
   pub status : IsStatus (opening words texts.system_text texts.script_text) ended.status
   pub sink_failed : ended.status ≡ 8 → Rose sink.faults_before sink.faults_now
   pub sink_worked : ended.status ≡ 0 → sink.faults_now ≡ sink.faults_before
-  pub silent : ended.handled ≡ [] → IsSilent sink ended
+  pub silent : ended.handled ≡ [] → IsSilent (opening words texts.system_text texts.script_text) sink ended
   pub talked : (inputs : Inputs) → opening words texts.system_text texts.script_text ≡ Ok inputs →
       ended.handled ≢ [] → IsTalk inputs settings start sink ended
   pub opened : ended.handled ≢ [] → (inputs : Inputs) × (opening words texts.system_text texts.script_text ≡ Ok inputs)

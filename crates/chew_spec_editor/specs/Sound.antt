@@ -2,7 +2,7 @@
 use Rattle.std.specs.Prelude.{◌≡◌, ◌≤◌, true, List, [], length, sum, All}
 use Rattle.chew_spec_syllable.specs.Phrase.{is_phrase}
 use Rattle.chew_spec_syllable.specs.Row.{Row, is_row}
-pub use Rattle.chew_spec_layout.specs.Held.{is_held}
+use Rattle.chew_spec_layout.specs.Layout.{is_layout}
 use Rattle.chew_spec_dictionary.specs.Call.{Hit, Reply, Rows}
 use Rattle.chew_spec_dictionary.specs.System.{has_single}
 use Rattle.chew_spec_phrasing.specs.Segmentation.{lengths}
@@ -15,7 +15,7 @@ pub record IsPlaced (system : List Row) (settings : Settings) (editor : Editor) 
   pub singles : All (λ code. has_single system code ≡ true) editor.cells
   pub few : length editor.cells ≤ settings.buffer
   pub cursor : editor.cursor ≡ length editor.cells
-  pub held : is_held editor.held ≡ true
+  pub layout : is_layout editor.layout ≡ true
 
 -- and the pieces are phrases that have one character for each cell
 pub record IsSound (system : List Row) (settings : Settings) (editor : Editor) : Type 0 where

@@ -3,7 +3,8 @@ use Rattle.std.specs.Prelude.{ℕ, List, [], ◌∷◌, ◌++◌, length, take, 
 use Rattle.std.specs.Option.{option_map_or}
 use Rattle.chew_spec_syllable.specs.Row.{Row}
 use Rattle.chew_spec_dictionary.specs.Call.{Call, Reply}
-use Rattle.chew_spec_text.specs.Line.{KeyStroke, Line}
+use Rattle.chew_spec_text.specs.KeyStroke.{KeyStroke}
+use Rattle.chew_spec_text.specs.Line.{Line}
 use Rattle.chew_spec_editor.specs.Editor.{Settings, Editor, empty_editor}
 use Rattle.chew_spec_editor.specs.Finish.{finish}
 use Rattle.chew_spec_editor.specs.Press.{Pending, Pressed, Done, Ask, press}
@@ -56,4 +57,4 @@ talk_from system settings editor (key ∷ keys) replies =
 
 -- the talk from an empty editor
 abbrev pub talk : List Row → Settings → List KeyStroke → List Reply → Talk
-talk system settings keys replies = talk_from system settings empty_editor keys replies
+talk system settings keys replies = talk_from system settings (empty_editor settings) keys replies

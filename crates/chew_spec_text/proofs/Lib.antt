@@ -1,9 +1,0 @@
-pub mod Choices
-pub mod Keys
-pub mod Lines
-pub mod Rows
-pub mod Script
-pub mod Contexts
-pub mod Clean
-pub mod Printing
-pub mod Short

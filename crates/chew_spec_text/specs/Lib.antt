@@ -1,7 +1,10 @@
 pub mod Command
+pub mod DictionaryText
+pub mod Entry
+pub mod KeyStroke
 pub mod Line
+pub mod Lines
 pub mod Output
-pub mod PlainScript
-pub mod PlainSystem
 pub mod RowText
 pub mod Run
+pub mod Script

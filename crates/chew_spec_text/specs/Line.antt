@@ -1,15 +1,18 @@
--- The keys of a script, and the line that is printed for each handled key.
+-- The line that is printed for each handled key.
 use Rattle.std.specs.Prelude.{ℕ, List, [], ◌∷◌, ◌++◌, codes, decimal}
 
-pub data KeyStroke : Type 0 where
-  -- a printable ASCII byte
-  Char : (byte : ℕ) → KeyStroke
-  Enter : KeyStroke
-
--- what is told of a key besides: nothing, or that it could not do what it says
+-- what is told of a key besides
 pub data Note : Type 0 where
   Quiet : Note
+  -- it could not do what it says
   Bell : Note
+  -- what it would have learnt was not, since the user's dictionary is full
+  Full : Note
+  -- it added a phrase
+  Added : Note
+  -- it took a phrase away, or there was none
+  Forgot : Note
+  Missing : Note
 
 -- what is shown once a key was handled: the pre-edit text, the column of the cursor, what the layout holds,
 -- the text that this key committed, and the window of candidates
@@ -24,6 +27,10 @@ pub record Line : Type 0 where
 abbrev pub note_text : Note → List ℕ
 note_text Quiet = []
 note_text Bell = codes "bell"
+note_text Full = codes "full"
+note_text Added = codes "added"
+note_text Forgot = codes "forgot"
+note_text Missing = codes "none"
 
 -- the text, and a TAB or a line feed behind it
 abbrev pub with_tab : List ℕ → List ℕ

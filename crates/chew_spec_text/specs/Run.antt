@@ -1,13 +1,13 @@
 -- A run before its first key: what was read of its inputs, what they are, and the status of the run.
-use Rattle.std.specs.Prelude.{◌≡◌, ◌⊎◌, ℕ, ◌+◌, ◌≤◌, List, length, take, Option, Some, None, IfSome, IsNone, Result, Ok, Err, MatchResult, ok_or, if◌then◌else◌}
+use Rattle.std.specs.Prelude.{◌≡◌, ◌⊎◌, ℕ, ◌+◌, ◌≤◌, List, length, take, Option, Some, None, IfSome, IsNone, Result, Ok, Err, MatchResult, if◌then◌else◌}
 use Rattle.chew_spec_outside.specs.Faults.{Rose}
 use Rattle.chew_spec_syllable.specs.Row.{Row, image_cmp}
 use Rattle.chew_spec_dictionary.specs.Order.{in_order}
 use Rattle.chew_spec_text.specs.Command.{is_run_command}
-use Rattle.chew_spec_text.specs.Line.{KeyStroke}
-use Rattle.chew_spec_text.specs.Output.{Refusal, WrongWords, WrongInput, SourceFailed, refusal_status}
-use Rattle.chew_spec_text.specs.PlainScript.{plain_script, script_limit}
-use Rattle.chew_spec_text.specs.PlainSystem.{plain_system, system_limit}
+use Rattle.chew_spec_text.specs.DictionaryText.{dictionary_rows, system_limit}
+use Rattle.chew_spec_text.specs.KeyStroke.{KeyStroke}
+use Rattle.chew_spec_text.specs.Output.{Refusal, WrongWords, WrongSystem, WrongScript, SourceFailed, refusal_status}
+use Rattle.chew_spec_text.specs.Script.{Script, script_of, script_limit}
 
 -- a source over a call: what it had left, where it tells it, and its count of faults before and now
 pub record Watched : Type 0 where
@@ -26,22 +26,27 @@ pub record Inputs : Type 0 where
   pub system : List Row
   pub contexts : List (List KeyStroke)
 
--- the value of an input's text, else why there is none
-abbrev pub value_or_refusal : {X : Type 0} → (List ℕ → Option X) → Option (List ℕ) → Result X Refusal
-value_or_refusal value None = Err SourceFailed
-value_or_refusal value (Some text) = ok_or (value text) WrongInput
+-- a value, or the refusal that its fault makes
+abbrev pub or_refusal : {X F : Type 0} → (F → Refusal) → Result X F → Result X Refusal
+or_refusal refusal (Ok value) = Ok value
+or_refusal refusal (Err fault) = Err (refusal fault)
 
--- the inputs of these rows and keys, or the first refusal: the system comes before the script
-abbrev pub inputs_of : Result (List Row) Refusal → Result (List (List KeyStroke)) Refusal → Result Inputs Refusal
-inputs_of (Err refusal) contexts = Err refusal
+-- the value of an input's text, else why there is none
+abbrev pub value_or_refusal : {X F : Type 0} → (List ℕ → Result X F) → (F → Refusal) → Option (List ℕ) → Result X Refusal
+value_or_refusal value refusal None = Err SourceFailed
+value_or_refusal value refusal (Some text) = or_refusal refusal (value text)
+
+-- the inputs of these rows and this script, or the first refusal: the system comes before the script
+abbrev pub inputs_of : Result (List Row) Refusal → Result Script Refusal → Result Inputs Refusal
+inputs_of (Err refusal) script = Err refusal
 inputs_of (Ok rows) (Err refusal) = Err refusal
-inputs_of (Ok rows) (Ok contexts) = Ok (record { system = in_order image_cmp rows; contexts = contexts })
+inputs_of (Ok rows) (Ok script) = Ok (record { system = in_order image_cmp rows; contexts = script.contexts })
 
 -- the inputs of a run, or its refusal before the first key: the words come before the inputs
 unfoldable pub opening : List (List ℕ) → (system script : Option (List ℕ)) → Result Inputs Refusal
 opening words system script =
     if is_run_command words
-    then inputs_of (value_or_refusal plain_system system) (value_or_refusal plain_script script)
+    then inputs_of (value_or_refusal dictionary_rows WrongSystem system) (value_or_refusal script_of WrongScript script)
     else Err WrongWords
 
 -- what was read of the two sources of a run
