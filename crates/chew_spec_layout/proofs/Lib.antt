@@ -1,3 +1,4 @@
 pub mod Fed
 pub mod Columns
 pub mod Held
+pub mod Spelling

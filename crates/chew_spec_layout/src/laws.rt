@@ -1,3 +1,4 @@
 //! Laws and known values of the definitions.
 
+mod spelling;
 mod table;

@@ -1,0 +1,9 @@
+-- Each value computes.
+use Rattle.std.proofs.Common.{refl}
+use lib.Utf8.{encode}
+use Rattle.chew_spec_layout.specs.Spelling.{spellings, alone, endings_a, endings_i, endings_u, endings_v, endings_yu, ending_bare, plain_initials, n_initials, palatal_initials, bare_initials, spelling_of, fed_spelling}
+use Rattle.chew_spec_layout.proofs.laws.spelling.known_refusals.Goals as goal
+
+pub returns : goal.returns
+unfolding fed_spelling spelling_of spellings alone endings_a endings_i endings_u endings_v endings_yu ending_bare plain_initials n_initials palatal_initials bare_initials encode
+returns c = record { bue = refl; jv = refl; zh = refl; seventh = refl }
