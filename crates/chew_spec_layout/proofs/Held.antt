@@ -16,7 +16,7 @@ number_at_most place count =
     cond_both (ltb place count) (Some place) None (λ o. option_map_or suc o 0 ≤ count) (λ e. let h = ltb-true _ _ e in omega arith) (λ e. omega arith)
 
 -- a part's number is at most the number of its column's keys
-number_le : (column : List ℕ) (key : ℕ) → number_of column key ≤ length column
+pub number_le : (column : List ℕ) (key : ℕ) → number_of column key ≤ length column
 number_le column key = number_at_most (position_or_len (λ k. eqb k key) column) (length column)
 
 -- a key of the column has a number above 0
@@ -25,11 +25,11 @@ number_above None e = absurd cc
 number_above (Some n) e = omega arith
 
 -- columns with as many keys as there are parts
-record InColumns (columns : Columns) : Type 0 where
-  initials : length columns.initials ≤ 21
-  medials : length columns.medials ≤ 3
-  finals : length columns.finals ≤ 13
-  tones : length columns.tones ≤ 4
+pub record InColumns (columns : Columns) : Type 0 where
+  pub initials : length columns.initials ≤ 21
+  pub medials : length columns.medials ≤ 3
+  pub finals : length columns.finals ≤ 13
+  pub tones : length columns.tones ≤ 4
 
 -- both layouts have as many keys as there are parts
 in_columns : (table : Table) → InColumns (columns_of table)

@@ -1,4 +1,5 @@
-pub mod Fed
 pub mod Columns
+pub mod Fed
 pub mod Held
+pub mod Lettered
 pub mod Spelling

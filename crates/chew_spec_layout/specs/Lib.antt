@@ -1,6 +1,7 @@
 pub mod Held
 pub mod Keys
 pub mod Layout
+pub mod LetterKeys
 pub mod Letters
 pub mod Spelled
 pub mod Spelling

@@ -1,4 +1,5 @@
 //! Laws and known values of the definitions.
 
+mod letters;
 mod spelling;
 mod table;
