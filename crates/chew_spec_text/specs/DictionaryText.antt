@@ -1,6 +1,6 @@
 -- The text of a dictionary: in each line a phrase, its frequency and its syllables, and the first fault. The form is
 -- this project's own, after libchewing's dictionary text.
-use Rattle.std.specs.Prelude.{ℕ, ◌+◌, ◌-◌, ◌*◌, Bool, not, ◌&&◌, ◌||◌, List, [], ◌∷◌, ◌++◌, length, drop, filter, fold, chars, ◌==◌, nat_lt, nat_le, Option, Some, None, Result, Ok, Err, if◌then◌else◌}
+use Rattle.std.specs.Prelude.{ℕ, ◌+◌, ◌-◌, ◌*◌, Bool, ◌&&◌, ◌||◌, List, [], ◌∷◌, ◌++◌, length, drop, filter, fold, chars, ◌==◌, nat_lt, nat_le, Option, Some, None, Result, Ok, Err, if◌then◌else◌}
 use Rattle.std.specs.Option.{option_and_then, option_map}
 use Rattle.std.specs.Result.{result_ok}
 use Rattle.std.specs.List.{before_first, list_all, list_any, slice_split}
@@ -38,7 +38,7 @@ pub data RowCause : Type 0 where
 abbrev pub fields_of : List ℕ → List (List ℕ)
 fields_of line =
     filter (λ field. nat_lt 0 (length field))
-        (slice_split (λ byte. byte == 32 || (byte == 9)) (before_first (λ byte. byte == 35) line))
+    (slice_split (λ byte. byte == 32 || (byte == 9)) (before_first (λ byte. byte == 35) line))
 
 -- the number that decimal digits write
 abbrev pub digits_value : List ℕ → ℕ

@@ -1,5 +1,5 @@
 -- The line of an entry of the history in a trace.
-use Rattle.std.specs.Prelude.{ℕ, List, [], ◌∷◌, ◌++◌, map, codes, decimal}
+use Rattle.std.specs.Prelude.{ℕ, List, [], ◌∷◌, map, codes, decimal}
 use Rattle.std.specs.List.{join_with_byte}
 use Rattle.chew_spec_dictionary.specs.Call.{Call, Look, Learn, Forget, Freeze, Install}
 use Rattle.chew_spec_dictionary.specs.History.{Entry}

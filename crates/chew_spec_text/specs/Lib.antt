@@ -7,4 +7,5 @@ pub mod Lines
 pub mod Output
 pub mod RowText
 pub mod Run
+pub mod Sample
 pub mod Script

@@ -1,10 +1,14 @@
 -- The lines of a text that comes in, and the first of them that can't be taken.
-use Rattle.std.specs.Prelude.{ℕ, suc, ◌-◌, List, [], ◌∷◌, length, take, map, nat_eq, ◌==◌, if◌then◌else◌, Result, Ok, Err}
+use Rattle.std.specs.Prelude.{ℕ, suc, ◌-◌, List, [], ◌∷◌, ◌++◌, length, take, map, nat_eq, ◌==◌, if◌then◌else◌, Result, Ok, Err}
 use Rattle.std.specs.List.{ends_with, slice_split}
 
 -- the line without the carriage return at its end, of which one is dropped
 abbrev pub without_return : List ℕ → List ℕ
 without_return line = if ends_with nat_eq line (13 ∷ []) then take (length line - 1) line else line
+
+-- the line and a carriage return behind it
+abbrev pub with_return : List ℕ → List ℕ
+with_return line = line ++ 13 ∷ []
 
 -- the lines of a text, which line feeds part; what follows the last line feed is a line too
 abbrev pub lines_of : List ℕ → List (List ℕ)

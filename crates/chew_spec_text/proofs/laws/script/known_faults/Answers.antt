@@ -1,0 +1,46 @@
+-- Each value computes.
+use Rattle.std.proofs.Common.{refl}
+use Rattle.std.specs.Fmt.{digits}
+use Rattle.chew_spec_text.specs.KeyStroke.{keys_in}
+use Rattle.chew_spec_text.specs.Script.{script_of}
+use Rattle.chew_spec_text.proofs.laws.script.known_faults.Goals as goal
+
+pub returns-clause-byte : goal.returns-clause-byte
+unfolding script_of keys_in digits
+returns-clause-byte c = refl
+
+pub returns-clause-two_returns : goal.returns-clause-two_returns
+unfolding script_of keys_in digits
+returns-clause-two_returns c = refl
+
+pub returns-clause-no_colon : goal.returns-clause-no_colon
+unfolding script_of keys_in digits
+returns-clause-no_colon c = refl
+
+pub returns-clause-no_number : goal.returns-clause-no_number
+unfolding script_of keys_in digits
+returns-clause-no_number c = refl
+
+pub returns-clause-rounds : goal.returns-clause-rounds
+unfolding script_of keys_in digits
+returns-clause-rounds c = refl
+
+pub returns-clause-context : goal.returns-clause-context
+unfolding script_of keys_in digits
+returns-clause-context c = refl
+
+pub returns-clause-zero : goal.returns-clause-zero
+unfolding script_of keys_in digits
+returns-clause-zero c = refl
+
+pub returns-clause-leading_zero : goal.returns-clause-leading_zero
+unfolding script_of keys_in digits
+returns-clause-leading_zero c = refl
+
+pub returns-clause-key : goal.returns-clause-key
+unfolding script_of keys_in digits
+returns-clause-key c = refl
+
+pub returns-clause-open_name : goal.returns-clause-open_name
+unfolding script_of keys_in digits
+returns-clause-open_name c = refl

@@ -1,0 +1,26 @@
+//! Laws and known values of keys and their names.
+
+ghost use Rattle.std.specs.Prelude.{◌≡◌, [], ◌∷◌, Some, None, map, codes};
+ghost use Rattle.chew_spec_text.specs.KeyStroke.{Char, Enter, Backspace, Delete, Left, Right, Home, End, Up, Down, PageUp, PageDown, Tab, Esc, Add, Forget, key_named, keys_in};
+
+/// The key of each name, and words that are no names.
+pub fn known_names()
+    ensures editing { keys_in (codes "<E><B><D><L><R><H><Z>") ≡ Some (Enter ∷ (Backspace ∷ (Delete ∷ (Left ∷ (Right ∷ (Home ∷ (End ∷ []))))))) }
+    ensures moving { keys_in (codes "<U><V><P><N><T><X>") ≡ Some (Up ∷ (Down ∷ (PageUp ∷ (PageDown ∷ (Tab ∷ (Esc ∷ [])))))) }
+    ensures less_than { keys_in (codes "<lt>") ≡ Some (Char 60 ∷ []) }
+    ensures adding { keys_in (codes "<C2><C3><C4><C5><C6><C7><C8><C9>") ≡ Some (map Add (2 ∷ (3 ∷ (4 ∷ (5 ∷ (6 ∷ (7 ∷ (8 ∷ (9 ∷ []))))))))) }
+    ensures forgetting { keys_in (codes "<F1><F2><F3><F4><F5><F6><F7><F8><F9>") ≡ Some (map Forget (1 ∷ (2 ∷ (3 ∷ (4 ∷ (5 ∷ (6 ∷ (7 ∷ (8 ∷ (9 ∷ [])))))))))) }
+    ensures no_names { map key_named (codes "C1" ∷ (codes "C10" ∷ (codes "F0" ∷ (codes "K2" ∷ (codes "e" ∷ (codes "Q" ∷ ([] ∷ []))))))) ≡ None ∷ (None ∷ (None ∷ (None ∷ (None ∷ (None ∷ (None ∷ [])))))) }
+{}
+
+/// Characters stand for themselves, also '>'; a '<' that begins no name gives no keys.
+pub fn known_keys()
+    ensures characters { keys_in (codes "hk4 >E") ≡ Some (map Char (codes "hk4 >E")) }
+    ensures mixed { keys_in (codes "g<C2>><E>4") ≡ Some (Char 103 ∷ (Add 2 ∷ (Char 62 ∷ (Enter ∷ (Char 52 ∷ []))))) }
+    ensures empty { keys_in [] ≡ Some [] }
+    ensures alone { keys_in (codes "hk<") ≡ None }
+    ensures cut { keys_in (codes "<E") ≡ None }
+    ensures two { keys_in (codes "<<E>") ≡ None }
+    ensures unnamed { keys_in (codes "<>") ≡ None }
+    ensures other { keys_in (codes "4<Q>") ≡ None }
+{}
