@@ -1,5 +1,5 @@
-ghost use Rattle.std.specs.Prelude.{◌≡◌};
-ghost use Rattle.chew_spec_layout.specs.Held.{IsHeld};
+ghost use Rattle.std.specs.Prelude.{◌≡◌, IsTrue};
+ghost use Rattle.chew_spec_layout.specs.Held.{is_held};
 ghost use Rattle.chew_spec_layout.specs.Table.{fed, columns_of, holds_something, nothing_held};
 ghost use Rattle.chew_spec_syllable.specs.SyllableText.{text_of};
 ghost use Rattle.chew_syllable.specs.Step.{step_of};
@@ -19,7 +19,8 @@ pub struct Direct {
 }
 
 impl Model for Direct {
-    ghost use Rattle.chew_spec_layout.specs.Held.{IsHeld};
+    ghost use Rattle.std.specs.Prelude.{IsTrue};
+    ghost use Rattle.chew_spec_layout.specs.Held.{is_held};
     ghost use Rattle.chew_spec_layout.specs.Table.{Direct as Held};
     ghost use Rattle.chew_layout_table.specs.Tables.{table_of};
 
@@ -27,7 +28,7 @@ impl Model for Direct {
 
     ghost view = { λ a. record { table = table_of a.table; held = a.held } };
 
-    ghost invariant = { λ a. IsHeld a.held };
+    ghost invariant = { λ a. IsTrue (is_held a.held) };
 }
 
 impl Direct {
@@ -45,7 +46,7 @@ impl Direct {
     pub fn feed(&mut self, key: u8) -> Step
         ensures step { step_of result ≡ (fed (columns_of self.old.table) self.old.held key).step }
         ensures held { self.new ≡ record self.old { held = (fed (columns_of self.old.table) self.old.held key).held } }
-        ensures valid { IsHeld self.new.held }
+        ensures valid { IsTrue (is_held self.new.held) }
     {
         let turn = fed(self.table, self.held, key);
         self.held = turn.held;
@@ -62,7 +63,7 @@ impl Direct {
     /// Whether it holds a part.
     pub fn holds(&self) -> bool
         ensures value { result ≡ holds_something self.now.held }
-        ensures valid { IsHeld self.now.held }
+        ensures valid { IsTrue (is_held self.now.held) }
     {
         holds_something(self.held)
     }

@@ -1,5 +1,5 @@
 ghost use Rattle.std.specs.Prelude.{◌≡◌, ◌<◌, ◌≤◌, ◌==◌, IfSome, OnSome, position, SomeIff, IsTrue, length};
-ghost use Rattle.chew_spec_layout.specs.Held.{IsHeld};
+ghost use Rattle.chew_spec_layout.specs.Held.{is_held};
 ghost use Rattle.chew_spec_layout.specs.Table.{fed, columns_of, holds_something, nothing_held, has_key, number_of, whole_or, without_last, erased};
 ghost use Rattle.chew_syllable.specs.Step.{step_of};
 ghost use Rattle.chew_layout_table.specs.Tables.{table_of};
@@ -50,7 +50,7 @@ fn number_in(column: &[u8], key: u8) -> Option<u8>
 
 /// Whether there is a part.
 pub(crate) fn holds_something(held: Parts) -> bool
-    requires { IsHeld held }
+    requires { IsTrue (is_held held) }
     ensures { result ≡ holds_something held }
 {
     held.initial + held.medial + held.rime > 0
@@ -58,11 +58,11 @@ pub(crate) fn holds_something(held: Parts) -> bool
 
 /// Ends the syllable with this tone; the other step where nothing is held.
 fn whole_or(otherwise: Step, held: Parts, tone: u8) -> Turn
-    requires held { IsHeld held }
+    requires held { IsTrue (is_held held) }
     requires tone { tone ≤ 4 }
     ensures step { step_of result.step ≡ (whole_or (step_of otherwise) held tone).step }
     ensures held { result.held ≡ (whole_or (step_of otherwise) held tone).held }
-    ensures valid { IsHeld result.held }
+    ensures valid { IsTrue (is_held result.held) }
 {
     match Syllable::of(Parts { tone, ..held }) {
         Some(syllable) => Turn {
@@ -78,9 +78,9 @@ fn whole_or(otherwise: Step, held: Parts, tone: u8) -> Turn
 
 /// Without the final, else without the medial, else without the initial.
 fn without_last(held: Parts) -> Parts
-    requires { IsHeld held }
+    requires { IsTrue (is_held held) }
     ensures value { result ≡ without_last held }
-    ensures valid { IsHeld result }
+    ensures valid { IsTrue (is_held result) }
 {
     if held.rime > 0 {
         return Parts { rime: 0, ..held };
@@ -93,10 +93,10 @@ fn without_last(held: Parts) -> Parts
 
 /// What Backspace does.
 fn erased(held: Parts) -> Turn
-    requires { IsHeld held }
+    requires { IsTrue (is_held held) }
     ensures step { step_of result.step ≡ (erased held).step }
     ensures held { result.held ≡ (erased held).held }
-    ensures valid { IsHeld result.held }
+    ensures valid { IsTrue (is_held result.held) }
 {
     if !holds_something(held) {
         return Turn {
@@ -113,10 +113,10 @@ fn erased(held: Parts) -> Turn
 /// What a key does to the parts that are held.
 #[tactic(auto, unfolding(chew_spec_layout::specs::Table::fed))]
 pub(crate) fn fed(table: Table, held: Parts, key: u8) -> Turn
-    requires { IsHeld held }
+    requires { IsTrue (is_held held) }
     ensures step { step_of result.step ≡ (fed (columns_of (table_of table)) held key).step }
     ensures held { result.held ≡ (fed (columns_of (table_of table)) held key).held }
-    ensures valid { IsHeld result.held }
+    ensures valid { IsTrue (is_held result.held) }
 {
     if let Some(initial) = number_in(table.initials(), key) {
         return Turn {
