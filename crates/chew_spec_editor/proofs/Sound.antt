@@ -13,8 +13,6 @@ use Rattle.chew_spec_syllable.specs.Phrase.{is_phrase}
 use Rattle.chew_spec_syllable.specs.Row.{Row}
 use Rattle.chew_spec_syllable.specs.Key.{is_run}
 use Rattle.chew_spec_syllable.specs.Syllable.{is_code}
-use Rattle.chew_spec_layout.specs.Step.{Step, Kept, Whole, Refused, Erased, NotMine}
-use Rattle.chew_spec_layout.specs.Table.{fed, columns_of, Standard}
 use Rattle.chew_spec_dictionary.specs.Call.{Hit, Look, Reply, Rows, Learned, Full, Forgot, NotThere, Frozen, Installed}
 use Rattle.chew_spec_dictionary.specs.Look.{Interval}
 use Rattle.chew_spec_phrasing.specs.Best.{IsBest, best_pieces}
@@ -24,17 +22,18 @@ use Rattle.chew_spec_phrasing.specs.Usable.{Piece, phrase_len, first_row, is_unb
 use Rattle.chew_spec_phrasing.proofs.Best.{IsBest-from_best_of}
 use Rattle.chew_spec_phrasing.proofs.CanSegment.{best_of-from_CanSegment}
 use Rattle.chew_spec_phrasing.proofs.Usable.{GivesOwn-piece_at, Passes-from_find}
-use Rattle.chew_spec_text.specs.Line.{KeyStroke, Char, Enter, Line}
+use Rattle.chew_spec_text.specs.KeyStroke.{KeyStroke}
+use Rattle.chew_spec_text.specs.Line.{Line}
 use Rattle.chew_spec_editor.specs.Editor.{Settings, Editor, column_of, shown_text}
 use Rattle.chew_spec_editor.specs.Finish.{finish, rows_in}
 use Rattle.chew_spec_editor.specs.Left.{left_from}
-use Rattle.chew_spec_editor.specs.Press.{Pending, Pressed, Done, Ask, after_step, press}
+use Rattle.chew_spec_editor.specs.Press.{Pending, Pressed, Done, Ask, press}
 use Rattle.chew_spec_editor.specs.Sound.{AreProper, AreRows, IsPlaced, IsSound, hits_in}
 use Rattle.chew_spec_editor.specs.Talk.{Turn, turn_after, turn_of}
 use Rattle.chew_spec_editor.proofs.Characters.{length-chars-joined}
 use Rattle.chew_spec_editor.proofs.Hits.{AreProper-combined_hits, CanSegment-combined_hits, codes-singles}
 use Rattle.chew_spec_editor.proofs.Intervals.{All-pieces_from}
-use Rattle.chew_spec_editor.proofs.Placed.{press-placed, press-sound}
+use Rattle.chew_spec_editor.proofs.Placed.{press-asked, press-placed, press-sound}
 
 -- the piece of an interval is a phrase, where no interval is a choice's
 phrase-from_row : (rows : List Hit) (at : Interval) (piece : Piece) → All (λ hit. is_phrase hit.phrase ≡ true) rows → (found : Option Hit)
@@ -67,7 +66,7 @@ finish-sound system settings pending replies rows proper placed =
     (IsBest-from_best_of hits [] [] (length run) best.0 (GivesOwn-piece_at hits [] [] known.lengths) best.1).is_one in
     let shown : best_pieces hits [] [] (length run) ≡ best.0 = ap (λ o. unwrap_or o []) best.1 in
     record {
-      placed = record { singles = placed.singles; few = placed.few; cursor = placed.cursor; held = placed.held };
+      placed = record { singles = placed.singles; few = placed.few; cursor = placed.cursor; layout = placed.layout };
       whole = ap (λ pieces. sum (lengths pieces)) shown ∙ one.adds_up.whole;
       phrases = subst (All (λ piece. is_phrase piece.phrase ≡ true)) (sym shown)
           (All-pieces_from (λ piece. is_phrase piece.phrase ≡ true) (piece_at hits [] []) (λ at piece e. phrase-piece_at hits at piece known.phrases e)
@@ -161,21 +160,9 @@ finish-best system settings pending replies rows proper placed =
     (IsBest-from_best_of hits [] [] (length run) best.0 (GivesOwn-piece_at hits [] [] known.lengths) best.1)
 
 -- a key that asks looks up all cells, which are a run
-step-look : (system : List Row) (settings : Settings) (editor : Editor) (step : Step) (pending : Pending)
-    → after_step system settings editor step ≡ Ask pending → pending.calls ≡ Look pending.editor.cells ∷ []
-step-look system settings editor Kept pending h = absurd cc
-step-look system settings editor (Whole code) pending h = grind arith
-step-look system settings editor Refused pending h = absurd cc
-step-look system settings editor Erased pending h = absurd cc
-step-look system settings editor NotMine pending h = absurd cc
-
 pub press-look : (system : List Row) (settings : Settings) (editor : Editor) (key : KeyStroke) (pending : Pending)
     → press system settings editor key ≡ Ask pending → pending.calls ≡ Look pending.editor.cells ∷ []
-unfolding press
-press-look system settings editor (Char byte) pending h =
-    let turn = fed (columns_of Standard) editor.held byte in
-    step-look system settings (record editor { held = turn.held }) turn.step pending h
-press-look system settings editor Enter pending h = grind arith
+press-look system settings editor key pending h = (press-asked system settings editor key pending h).1.calls
 
 pub press-run : (system : List Row) (settings : Settings) (editor : Editor) (key : KeyStroke) (pending : Pending)
     → AreRows system → settings.buffer ≤ 39 → IsPlaced system settings editor

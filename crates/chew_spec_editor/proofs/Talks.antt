@@ -1,17 +1,20 @@
 -- Talks that follow one another.
 use Rattle.std.specs.Prelude.{◌≡◌, ◌+◌, ◌≤◌, ◌<◌, suc, List, [], ◌∷◌, ◌++◌, length, take, drop, Option, Some, None}
 use Rattle.std.specs.Option.{option_map_or}
-use Rattle.std.proofs.Common.{refl, ap, ◌∙◌, arith, append_assoc, length-append, length-drop}
-use Rattle.std.proofs.lemmas.List.{drop-append-le}
+use Rattle.std.proofs.Common.{refl, ap, sym, subst, ◌∙◌, arith, append_assoc, length-append, length-drop}
+use Rattle.std.proofs.lemmas.List.{drop-append-le, drop-drop}
 use Rattle.chew_spec_syllable.specs.Row.{Row}
+use Rattle.chew_spec_layout.specs.Layout.{cleared, new_layout}
 use Rattle.chew_spec_dictionary.specs.Call.{Call, Reply}
-use Rattle.chew_spec_text.specs.Line.{KeyStroke, Line}
-use Rattle.chew_spec_editor.specs.Editor.{Settings, Editor}
+use Rattle.chew_spec_text.specs.KeyStroke.{KeyStroke}
+use Rattle.chew_spec_text.specs.Line.{Line}
+use Rattle.chew_spec_editor.specs.Editor.{Settings, Editor, empty_editor, line_of}
 use Rattle.chew_spec_editor.specs.Keys.{calls_asked}
 use Rattle.chew_spec_editor.specs.Left.{Left, followed, left_from}
 use Rattle.chew_spec_editor.specs.Press.{press}
 use Rattle.chew_spec_editor.specs.Talk.{Talk, Turn, after_key, handled, silence, talk_from, turn_of}
-use Rattle.chew_spec_editor.proofs.Turns.{one_call, turn_of-calls, turn_of-enough, turn_of-few, turn_of-more}
+use Rattle.chew_spec_editor.proofs.Feeding.{cleared-new}
+use Rattle.chew_spec_editor.proofs.Turns.{one_call, turn_of-calls, turn_of-kind, turn_of-line, turn_of-enough, turn_of-few, turn_of-more}
 
 -- a key before two talks
 after_key-followed : (calls : List Call) (line : Line) (talk next : Talk) → after_key calls line (followed talk next) ≡ followed (after_key calls line talk) next
@@ -249,3 +252,81 @@ handled_part system settings editor [] replies = refl
 handled_part system settings editor (key ∷ keys) replies =
     handled_part-step system settings key editor keys replies (turn_of system settings editor key replies) refl
     (λ t. handled_part system settings t.editor keys (drop (length t.calls) replies))
+
+-- the replies that are left are those behind the ones that the calls took
+left_replies-step : (system : List Row) (settings : Settings) (editor : Editor) (keys : List KeyStroke) (replies : List Reply) (turn : Option Turn)
+    → ((t : Turn) → (left_after system settings keys replies t).replies ≡ drop (length (talk_after system settings keys replies t).calls) (drop (length t.calls) replies))
+    → (option_map_or (left_after system settings keys replies) turn (record { editor = editor; replies = replies })).replies
+    ≡ drop (length (option_map_or (λ t. after_key t.calls t.line (talk_after system settings keys replies t)) turn silence).calls) replies
+left_replies-step system settings editor keys replies None rest = refl
+left_replies-step system settings editor keys replies (Some t) rest =
+    let more = (talk_after system settings keys replies t).calls in
+    rest t ∙ (drop-drop (length more) (length t.calls) replies ∙ ap (λ n. drop n replies) (sym (length-append t.calls more)))
+
+pub left_replies : (system : List Row) (settings : Settings) (editor : Editor) (keys : List KeyStroke) (replies : List Reply)
+    → (left_from system settings editor keys replies).replies ≡ drop (length (talk_from system settings editor keys replies).calls) replies
+unfolding talk_from left_from
+left_replies system settings editor [] replies = refl
+left_replies system settings editor (key ∷ keys) replies =
+    left_replies-step system settings editor keys replies (turn_of system settings editor key replies)
+    (λ t. left_replies system settings t.editor keys (drop (length t.calls) replies))
+
+-- a talk without a line leaves the editor as it was
+no_line-step : (system : List Row) (settings : Settings) (editor : Editor) (keys : List KeyStroke) (replies : List Reply) (turn : Option Turn)
+    → (option_map_or (λ t. after_key t.calls t.line (talk_after system settings keys replies t)) turn silence).lines ≡ []
+    → (option_map_or (left_after system settings keys replies) turn (record { editor = editor; replies = replies })).editor ≡ editor
+no_line-step system settings editor keys replies None h = refl
+no_line-step system settings editor keys replies (Some t) h = absurd cc
+
+no_line : (system : List Row) (settings : Settings) (editor : Editor) (keys : List KeyStroke) (replies : List Reply)
+    → (talk_from system settings editor keys replies).lines ≡ [] → (left_from system settings editor keys replies).editor ≡ editor
+unfolding talk_from left_from
+no_line system settings editor [] replies h = refl
+no_line system settings editor (key ∷ keys) replies h = no_line-step system settings editor keys replies (turn_of system settings editor key replies) h
+
+-- the last line shows the editor that is left
+last_line-step : (system : List Row) (settings : Settings) (editor : Editor) (keys : List KeyStroke) (replies : List Reply) (before : List Line) (last : Line) (turn : Option Turn)
+    → ((t : Turn) → turn ≡ Some t → t.line ≡ line_of t.editor t.line.commit t.line.note)
+    → ((t : Turn) (lines : List Line) → (talk_after system settings keys replies t).lines ≡ lines ++ last ∷ []
+    → last ≡ line_of (left_after system settings keys replies t).editor last.commit last.note)
+    → (option_map_or (λ t. after_key t.calls t.line (talk_after system settings keys replies t)) turn silence).lines ≡ before ++ last ∷ []
+    → last ≡ line_of (option_map_or (left_after system settings keys replies) turn (record { editor = editor; replies = replies })).editor last.commit last.note
+last_line-step system settings editor keys replies [] last None shows rest h = absurd cc
+last_line-step system settings editor keys replies (line ∷ before) last None shows rest h = absurd cc
+last_line-step system settings editor keys replies [] last (Some t) shows rest h =
+    let same : t.line ≡ last = cc in
+    let none : (talk_after system settings keys replies t).lines ≡ [] = cc in
+    subst (λ line. line ≡ line_of (left_after system settings keys replies t).editor line.commit line.note) same
+    (shows t refl ∙ ap (λ e. line_of e t.line.commit t.line.note) (sym (no_line system settings t.editor keys (drop (length t.calls) replies) none)))
+last_line-step system settings editor keys replies (line ∷ before) last (Some t) shows rest h = rest t before cc
+
+pub last_line : (system : List Row) (settings : Settings) (editor : Editor) (keys : List KeyStroke) (replies : List Reply) (before : List Line) (last : Line)
+    → (talk_from system settings editor keys replies).lines ≡ before ++ last ∷ []
+    → last ≡ line_of (left_from system settings editor keys replies).editor last.commit last.note
+unfolding talk_from left_from
+last_line system settings editor [] replies [] last h = absurd cc
+last_line system settings editor [] replies (line ∷ before) last h = absurd cc
+last_line system settings editor (key ∷ keys) replies before last h =
+    last_line-step system settings editor keys replies before last (turn_of system settings editor key replies)
+    (turn_of-line system settings editor key replies)
+    (λ t lines. last_line system settings t.editor keys (drop (length t.calls) replies) lines last) h
+
+-- the layout keeps its kind
+left_kind-step : (system : List Row) (settings : Settings) (editor : Editor) (keys : List KeyStroke) (replies : List Reply) (turn : Option Turn)
+    → ((t : Turn) → turn ≡ Some t → cleared t.editor.layout ≡ cleared editor.layout)
+    → ((t : Turn) → cleared (left_after system settings keys replies t).editor.layout ≡ cleared t.editor.layout)
+    → cleared (option_map_or (left_after system settings keys replies) turn (record { editor = editor; replies = replies })).editor.layout ≡ cleared editor.layout
+left_kind-step system settings editor keys replies None first rest = refl
+left_kind-step system settings editor keys replies (Some t) first rest = rest t ∙ first t refl
+
+pub left_kind : (system : List Row) (settings : Settings) (editor : Editor) (keys : List KeyStroke) (replies : List Reply)
+    → cleared (left_from system settings editor keys replies).editor.layout ≡ cleared editor.layout
+unfolding left_from
+left_kind system settings editor [] replies = refl
+left_kind system settings editor (key ∷ keys) replies =
+    left_kind-step system settings editor keys replies (turn_of system settings editor key replies) (turn_of-kind system settings editor key replies)
+    (λ t. left_kind system settings t.editor keys (drop (length t.calls) replies))
+
+pub talk_kind : (system : List Row) (settings : Settings) (keys : List KeyStroke) (replies : List Reply)
+    → cleared (left_from system settings (empty_editor settings) keys replies).editor.layout ≡ new_layout settings.layout
+talk_kind system settings keys replies = left_kind system settings (empty_editor settings) keys replies ∙ cleared-new settings.layout

@@ -1,18 +1,21 @@
 -- The turn of a key.
 use Rattle.std.specs.Prelude.{◌≡◌, ◌≤◌, ◌<◌, List, ◌++◌, length, take, nat_le, is_some, Some, None}
-use Rattle.std.proofs.Common.{refl, ap₂, sym, ◌∙◌, arith, length-append}
+use Rattle.std.proofs.Common.{refl, ap, ap₂, subst, sym, ◌∙◌, arith, length-append}
 use Rattle.std.proofs.lemmas.List.{take-append-le}
 use Rattle.std.proofs.lemmas.Bool.Decides.{nat_tests}
 use Rattle.chew_spec_syllable.specs.Row.{Row}
 use Rattle.chew_spec_dictionary.specs.Call.{Reply}
 use Rattle.chew_spec_layout.specs.Step.{Step, Kept, Whole, Refused, Erased, NotMine}
-use Rattle.chew_spec_layout.specs.Table.{fed, columns_of, Standard}
-use Rattle.chew_spec_text.specs.Line.{KeyStroke, Char, Enter, Line}
+use Rattle.chew_spec_layout.specs.Layout.{Layout, cleared, feed}
+use Rattle.chew_spec_layout.specs.Table.{backspace}
+use Rattle.chew_spec_text.specs.KeyStroke.{KeyStroke, Char, Enter, Backspace, Esc}
+use Rattle.chew_spec_text.specs.Line.{Line}
 use Rattle.chew_spec_editor.specs.Editor.{Settings, Editor, line_of}
 use Rattle.chew_spec_editor.specs.Finish.{finish}
 use Rattle.chew_spec_editor.specs.Keys.{calls_asked}
-use Rattle.chew_spec_editor.specs.Press.{Pressed, Done, Ask, after_step, press}
+use Rattle.chew_spec_editor.specs.Press.{Pending, Pressed, Done, Ask, after_step, press}
 use Rattle.chew_spec_editor.specs.Talk.{Turn, turn_after, turn_of}
+use Rattle.chew_spec_editor.proofs.Placed.{asked-kind, press-asked, press-kind}
 
 -- a turn makes the calls that the pressed key asks
 turn_after-calls : (system : List Row) (pressed : Pressed) (replies : List Reply) (turn : Turn)
@@ -70,19 +73,14 @@ pub turn_of-there : (system : List Row) (settings : Settings) (editor : Editor) 
 turn_of-there system settings editor key replies = turn_after-there system (press system settings editor key) replies
 
 -- a key asks one call at most, for now
-step-one_call : (system : List Row) (settings : Settings) (editor : Editor) (step : Step) → length (calls_asked (after_step system settings editor step)) ≤ 1
-step-one_call system settings editor Kept = omega arith
-step-one_call system settings editor (Whole code) = grind arith
-step-one_call system settings editor Refused = omega arith
-step-one_call system settings editor Erased = omega arith
-step-one_call system settings editor NotMine = omega arith
+pressed-one_call : (pressed : Pressed) → ((pending : Pending) → pressed ≡ Ask pending → length pending.calls ≤ 1) → length (calls_asked pressed) ≤ 1
+pressed-one_call (Done editor line) h = omega arith
+pressed-one_call (Ask pending) h = h pending refl
 
 pub one_call : (system : List Row) (settings : Settings) (editor : Editor) (key : KeyStroke) → length (calls_asked (press system settings editor key)) ≤ 1
-unfolding press
-one_call system settings editor (Char byte) =
-    let turn = fed (columns_of Standard) editor.held byte in
-    step-one_call system settings (record editor { held = turn.held }) turn.step
-one_call system settings editor Enter = grind arith
+one_call system settings editor key =
+    pressed-one_call (press system settings editor key)
+    (λ pending h. let one = ap length (press-asked system settings editor key pending h).1.calls in omega arith)
 
 -- the line of a turn shows the editor that the key leaves
 turn_after-line : (system : List Row) (pressed : Pressed) (replies : List Reply) (turn : Turn)
@@ -112,12 +110,33 @@ press-line : (system : List Row) (settings : Settings) (editor after : Editor) (
     → press system settings editor key ≡ Done after line → line ≡ line_of after line.commit line.note
 unfolding press
 press-line system settings editor after (Char byte) line h =
-    let turn = fed (columns_of Standard) editor.held byte in
-    step-line system settings (record editor { held = turn.held }) after turn.step line h
+    let turn = feed editor.layout byte in step-line system settings (record editor { layout = turn.layout }) after turn.step line h
+press-line system settings editor after Backspace line h =
+    let turn = feed editor.layout backspace in step-line system settings (record editor { layout = turn.layout }) after turn.step line h
 press-line system settings editor after Enter line h = grind arith
+press-line system settings editor after Esc line h = grind arith
+press-line system settings editor after _ line h = grind arith
 
 pub turn_of-line : (system : List Row) (settings : Settings) (editor : Editor) (key : KeyStroke) (replies : List Reply) (turn : Turn)
     → turn_of system settings editor key replies ≡ Some turn → turn.line ≡ line_of turn.editor turn.line.commit turn.line.note
 turn_of-line system settings editor key replies turn h =
     turn_after-line system (press system settings editor key) replies turn
     (λ after line e. press-line system settings editor after key line e) h
+
+-- the layout of a turn keeps its kind
+turn_after-kind : (system : List Row) (layout : Layout) (pressed : Pressed) (replies : List Reply) (turn : Turn)
+    → ((editor : Editor) (line : Line) → pressed ≡ Done editor line → cleared editor.layout ≡ layout)
+    → ((pending : Pending) → pressed ≡ Ask pending → cleared pending.editor.layout ≡ layout)
+    → turn_after system pressed replies ≡ Some turn → cleared turn.editor.layout ≡ layout
+unfolding finish
+turn_after-kind system layout (Done editor line) replies turn done asked h =
+    let left : editor ≡ turn.editor = cc in subst (λ e. cleared e.layout ≡ layout) left (done editor line refl)
+turn_after-kind system layout (Ask pending) replies turn done asked h =
+    let left : (finish system pending (take (length pending.calls) replies)).editor ≡ turn.editor = grind arith in
+    subst (λ e. cleared e.layout ≡ layout) left (asked pending refl)
+
+pub turn_of-kind : (system : List Row) (settings : Settings) (editor : Editor) (key : KeyStroke) (replies : List Reply) (turn : Turn)
+    → turn_of system settings editor key replies ≡ Some turn → cleared turn.editor.layout ≡ cleared editor.layout
+turn_of-kind system settings editor key replies turn h =
+    turn_after-kind system (cleared editor.layout) (press system settings editor key) replies turn
+    (λ after line e. press-kind system settings editor after key line e) (λ pending e. asked-kind system settings editor key pending e) h

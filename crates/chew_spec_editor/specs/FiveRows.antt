@@ -2,7 +2,7 @@
 use Rattle.std.specs.Prelude.{ℕ, List, [], ◌∷◌, codes}
 use Rattle.std.specs.Str.{encode_utf8_all}
 use Rattle.chew_spec_syllable.specs.Row.{Row}
-use Rattle.chew_spec_layout.specs.Layout.{Standard}
+use Rattle.chew_spec_layout.specs.Layout.{Kind, Standard}
 use Rattle.chew_spec_editor.specs.Editor.{Settings}
 
 -- the syllables ㄘㄜˋ and ㄕˋ
@@ -26,6 +26,9 @@ five_rows =
     ∷ (row_at_start (ce4 ∷ (shi4 ∷ [])) (encode_utf8_all (codes "測試")) 9318
     ∷ []))))
 
--- the default layout and a buffer of ten cells
+-- a layout and a buffer of ten cells; and the default layout
+abbrev pub ten_cells_of : Kind → Settings
+ten_cells_of kind = record { layout = kind; buffer = 10 }
+
 abbrev pub ten_cells : Settings
-ten_cells = record { layout = Standard; buffer = 10 }
+ten_cells = ten_cells_of Standard

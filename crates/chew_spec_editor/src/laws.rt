@@ -1,5 +1,6 @@
 //! Laws and known values of the definitions.
 
+mod journal;
 mod keys;
 mod known;
 mod sound;

@@ -4,9 +4,13 @@ ghost use Rattle.std.specs.Prelude.{◌≡◌, ◌++◌, ◌∷◌, [], codes, d
 ghost use Rattle.std.specs.List.{list_all};
 ghost use Rattle.std.specs.Str.{encode_utf8_all};
 ghost use Rattle.chew_spec_syllable.specs.Row.{is_row, no_pair_twice};
+ghost use Rattle.chew_spec_layout.specs.Layout.{Et26, Eten, Hsu, Pinyin, shown, Standard};
 ghost use Rattle.chew_spec_dictionary.specs.Call.{Look, Rows};
-ghost use Rattle.chew_spec_text.specs.Line.{Char, Enter, line_text};
-ghost use Rattle.chew_spec_editor.specs.FiveRows.{ce4, five_rows, shi4, ten_cells};
+ghost use Rattle.chew_spec_text.specs.KeyStroke.{Backspace, Char, Enter, Esc, Tab};
+ghost use Rattle.chew_spec_text.specs.Line.{line_text};
+ghost use Rattle.chew_spec_editor.specs.Editor.{empty_editor};
+ghost use Rattle.chew_spec_editor.specs.FiveRows.{ce4, five_rows, shi4, ten_cells, ten_cells_of};
+ghost use Rattle.chew_spec_editor.specs.Left.{left_from};
 ghost use Rattle.chew_spec_editor.specs.Talk.{talk};
 
 /// Two syllables, the second by its phrase with the first, and Enter, where the user has no rows.
@@ -21,6 +25,39 @@ pub fn known_talk()
         ∷ (encode_utf8_all (codes "測試\t4\t\t\t\t\n")
         ∷ (encode_utf8_all (codes "\t0\t\t測試\t\t\n")
         ∷ []))))) }
+{}
+
+/// Backspace takes the final that was typed last, so that the initial is held.
+pub fn known_backspace()
+    ensures held { shown (left_from five_rows ten_cells (empty_editor ten_cells) (map Char (codes "hk") ++ Backspace ∷ []) []).editor.layout
+        ≡ encode_utf8_all (codes "ㄘ") }
+    ensures last { map line_text (drop 2 (talk five_rows ten_cells (map Char (codes "hk") ++ Backspace ∷ []) []).lines)
+        ≡ encode_utf8_all (codes "\t0\tㄘ\t\t\t\n") ∷ [] }
+{}
+
+/// Esc leaves nothing held. Then it is a bell, and so are Backspace and a key that isn't built.
+pub fn known_esc()
+    ensures calls { (talk five_rows ten_cells (map Char (codes "hk") ++ (Esc ∷ (Esc ∷ (Backspace ∷ (Tab ∷ []))))) []).calls ≡ [] }
+    ensures lines { map line_text (drop 2 (talk five_rows ten_cells (map Char (codes "hk") ++ (Esc ∷ (Esc ∷ (Backspace ∷ (Tab ∷ []))))) []).lines)
+        ≡ encode_utf8_all (codes "\t0\t\t\t\t\n")
+        ∷ (encode_utf8_all (codes "\t0\t\t\t\tbell\n")
+        ∷ (encode_utf8_all (codes "\t0\t\t\t\tbell\n")
+        ∷ (encode_utf8_all (codes "\t0\t\t\t\tbell\n")
+        ∷ []))) }
+{}
+
+/// The same syllable by each of the five layouts, with what each shows before it is whole.
+pub fn known_layouts()
+    ensures standard { map line_text (drop 1 (talk five_rows (ten_cells_of Standard) (map Char (codes "hk4")) (Rows [] ∷ [])).lines)
+        ≡ encode_utf8_all (codes "\t0\tㄘㄜ\t\t\t\n") ∷ (encode_utf8_all (codes "策\t2\t\t\t\t\n") ∷ []) }
+    ensures eten { map line_text (drop 1 (talk five_rows (ten_cells_of Eten) (map Char (codes "'r4")) (Rows [] ∷ [])).lines)
+        ≡ encode_utf8_all (codes "\t0\tㄘㄜ\t\t\t\n") ∷ (encode_utf8_all (codes "策\t2\t\t\t\t\n") ∷ []) }
+    ensures hsu { map line_text (drop 1 (talk five_rows (ten_cells_of Hsu) (map Char (codes "agj")) (Rows [] ∷ [])).lines)
+        ≡ encode_utf8_all (codes "\t0\tag\t\t\t\n") ∷ (encode_utf8_all (codes "策\t2\t\t\t\t\n") ∷ []) }
+    ensures et26 { map line_text (drop 1 (talk five_rows (ten_cells_of Et26) (map Char (codes "wrk")) (Rows [] ∷ [])).lines)
+        ≡ encode_utf8_all (codes "\t0\twr\t\t\t\n") ∷ (encode_utf8_all (codes "策\t2\t\t\t\t\n") ∷ []) }
+    ensures pinyin { map line_text (drop 1 (talk five_rows (ten_cells_of Pinyin) (map Char (codes "ce4")) (Rows [] ∷ [])).lines)
+        ≡ encode_utf8_all (codes "\t0\tce\t\t\t\n") ∷ (encode_utf8_all (codes "策\t2\t\t\t\t\n") ∷ []) }
 {}
 
 /// Space with nothing held is a bell.

@@ -9,7 +9,8 @@ ghost use Rattle.chew_spec_dictionary.specs.Look.{hits_of};
 ghost use Rattle.chew_spec_phrasing.specs.Best.{IsBest};
 ghost use Rattle.chew_spec_phrasing.specs.Combined.{combined_hits};
 ghost use Rattle.chew_spec_phrasing.specs.Usable.{piece_at};
-ghost use Rattle.chew_spec_text.specs.Line.{KeyStroke, Line};
+ghost use Rattle.chew_spec_text.specs.KeyStroke.{KeyStroke};
+ghost use Rattle.chew_spec_text.specs.Line.{Line};
 ghost use Rattle.chew_spec_editor.specs.Editor.{column_of, Editor, empty_editor, Settings, shown_text};
 ghost use Rattle.chew_spec_editor.specs.Finish.{finish, rows_in};
 ghost use Rattle.chew_spec_editor.specs.Left.{left_from};
@@ -28,7 +29,7 @@ pub fn one_character_a_cell()
 /// A talk begins with a sound editor, each key keeps it sound, and so it stays sound, where the system has rows and
 /// the dictionary answers with phrases of the right lengths.
 pub fn talk_keeps_sound()
-    ensures empty { (system : List Row) (settings : Settings) → IsSound system settings empty_editor }
+    ensures empty { (system : List Row) (settings : Settings) → IsSound system settings (empty_editor settings) }
     ensures pressed { (system : List Row) (settings : Settings) (editor after : Editor) (key : KeyStroke) (line : Line)
         → press system settings editor key ≡ Done after line → IsSound system settings editor → IsSound system settings after }
     ensures asked { (system : List Row) (settings : Settings) (editor : Editor) (key : KeyStroke) (pending : Pending)

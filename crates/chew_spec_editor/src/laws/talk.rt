@@ -1,10 +1,12 @@
 //! Laws of the talk.
 
-ghost use Rattle.std.specs.Prelude.{◌≡◌, ◌+◌, ◌++◌, ◌∷◌, ◌<◌, ◌≤◌, drop, length, List, take};
+ghost use Rattle.std.specs.Prelude.{◌≡◌, ◌+◌, ◌++◌, ◌∷◌, ◌<◌, ◌≤◌, [], drop, length, List, take};
 ghost use Rattle.chew_spec_syllable.specs.Row.{Row};
+ghost use Rattle.chew_spec_layout.specs.Layout.{cleared, new_layout};
 ghost use Rattle.chew_spec_dictionary.specs.Call.{Reply};
-ghost use Rattle.chew_spec_text.specs.Line.{KeyStroke};
-ghost use Rattle.chew_spec_editor.specs.Editor.{Editor, Settings};
+ghost use Rattle.chew_spec_text.specs.KeyStroke.{KeyStroke};
+ghost use Rattle.chew_spec_text.specs.Line.{Line};
+ghost use Rattle.chew_spec_editor.specs.Editor.{Editor, empty_editor, line_of, Settings};
 ghost use Rattle.chew_spec_editor.specs.Keys.{calls_asked};
 ghost use Rattle.chew_spec_editor.specs.Left.{followed, left_from};
 ghost use Rattle.chew_spec_editor.specs.Press.{press};
@@ -66,4 +68,20 @@ pub fn talk_counts()
         ≡ length replies }
     ensures all { (system : List Row) (settings : Settings) (editor : Editor) (keys : List KeyStroke) (replies : List Reply)
         → length keys ≤ length replies → length (talk_from system settings editor keys replies).lines ≡ length keys }
+{}
+
+/// What a talk leaves is tied to it: the replies that are left are those behind the ones that its calls took, and its last
+/// line shows the editor that is left.
+pub fn what_a_talk_leaves()
+    ensures replies { (system : List Row) (settings : Settings) (editor : Editor) (keys : List KeyStroke) (replies : List Reply)
+        → (left_from system settings editor keys replies).replies ≡ drop (length (talk_from system settings editor keys replies).calls) replies }
+    ensures shown { (system : List Row) (settings : Settings) (editor : Editor) (keys : List KeyStroke) (replies : List Reply) (before : List Line) (last : Line)
+        → (talk_from system settings editor keys replies).lines ≡ before ++ last ∷ []
+        → last ≡ line_of (left_from system settings editor keys replies).editor last.commit last.note }
+{}
+
+/// The layout stays of the kind that is set, over a whole talk: without what it holds it is the new one of that kind.
+pub fn layout_keeps_its_kind()
+    ensures { (system : List Row) (settings : Settings) (keys : List KeyStroke) (replies : List Reply)
+        → cleared (left_from system settings (empty_editor settings) keys replies).editor.layout ≡ new_layout settings.layout }
 {}

@@ -3,7 +3,7 @@
 ghost use Rattle.std.specs.Prelude.{◌≡◌, ◌++◌, ◌≤◌, is_some, length, List, nat_le, Some};
 ghost use Rattle.chew_spec_syllable.specs.Row.{Row};
 ghost use Rattle.chew_spec_dictionary.specs.Call.{Reply};
-ghost use Rattle.chew_spec_text.specs.Line.{KeyStroke};
+ghost use Rattle.chew_spec_text.specs.KeyStroke.{KeyStroke};
 ghost use Rattle.chew_spec_editor.specs.Editor.{Editor, line_of, Settings};
 ghost use Rattle.chew_spec_editor.specs.Keys.{calls_asked};
 ghost use Rattle.chew_spec_editor.specs.Press.{press};
