@@ -1,0 +1,10 @@
+//! Any of the layouts, as one type. No call takes memory.
+#![tactic(auto)]
+
+mod kind;
+mod layout;
+#[cfg(test)]
+mod tests;
+
+pub use kind::Kind;
+pub use layout::Layout;
