@@ -1,3 +1,4 @@
+pub mod AnyLayout
 pub mod Columns
 pub mod Fed
 pub mod Held

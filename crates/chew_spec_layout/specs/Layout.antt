@@ -32,6 +32,14 @@ new_layout Hsu = ByLetters letter.Hsu []
 new_layout Et26 = ByLetters letter.Et26 []
 new_layout Pinyin = BySpelling []
 
+-- the kind of a layout, whatever it holds
+abbrev pub kind_in : Layout → Kind
+kind_in (ByParts table.Standard held) = Standard
+kind_in (ByParts table.Eten held) = Eten
+kind_in (ByLetters letter.Hsu held) = Hsu
+kind_in (ByLetters letter.Et26 held) = Et26
+kind_in (BySpelling held) = Pinyin
+
 -- what a key did, and the layout then
 pub record LayoutFed : Type 0 where
   pub step : Step

@@ -1,5 +1,6 @@
 //! Laws and known values of the definitions.
 
+mod layout;
 mod letters;
 mod spelling;
 mod table;
