@@ -1,11 +1,9 @@
 -- What replies make of a pending editor.
-use Rattle.std.specs.Prelude.{◌≡◌, ℕ, true, List, [], ◌∷◌, length, All, Some, unwrap_or}
-use Rattle.std.proofs.Common.{refl, ap, subst, ◌∙◌, arith}
+use Rattle.std.specs.Prelude.{◌≡◌, ℕ, List, [], length, Some}
+use Rattle.std.proofs.Common.{refl, ap, subst, ◌∙◌}
 use Rattle.chew_spec_syllable.specs.Row.{Row}
 use Rattle.chew_spec_syllable.specs.Syllable.{Parts}
-use Rattle.chew_spec_layout.specs.Table.{nothing_held}
-use Rattle.chew_spec_dictionary.specs.Call.{Call, Hit, Reply, Rows}
-use Rattle.chew_spec_dictionary.specs.System.{has_single}
+use Rattle.chew_spec_dictionary.specs.Call.{Call, Hit, Reply}
 use Rattle.chew_spec_phrasing.specs.Best.{best_of, best_pieces}
 use Rattle.chew_spec_phrasing.specs.Combined.{combined_hits}
 use Rattle.chew_spec_phrasing.specs.Usable.{Piece}
@@ -13,30 +11,18 @@ use Rattle.chew_spec_text.specs.Line.{Line, Quiet}
 use Rattle.chew_spec_editor.specs.Editor.{Settings, Editor, line_of}
 use Rattle.chew_spec_editor.specs.Finish.{finish, rows_in}
 use Rattle.chew_spec_editor.specs.Press.{ConfiguredPending}
-use Rattle.chew_spec_editor.specs.Sound.{AreProper, AreRows}
-use Rattle.chew_spec_editor.proofs.Sound.{finish-sound}
+use Rattle.chew_spec_editor.specs.Sound.{AreProper}
+use Rattle.chew_spec_editor.proofs.Sound.{best-covers}
 use Rattle.chew_editor.specs.Kept.{CoverCells}
 use Rattle.chew_editor.specs.Shown.{line_at_end}
 use Rattle.chew_editor.proofs.Lines.{line_of-at_end}
 
--- the best pieces of the cells have one character for each
-pub CoverCells-best_pieces : (system : List Row) (cells : List ℕ) (hits : List Hit) → AreRows system → AreProper hits → All (λ code. has_single system code ≡ true) cells
-    → CoverCells (length cells) (best_pieces (combined_hits system cells hits) [] [] (length cells))
-unfolding finish
-CoverCells-best_pieces system cells hits rows proper singles =
-    let editor : Editor = record { held = nothing_held; cells = cells; cursor = length cells; pieces = [] } in
-    let sound = finish-sound system (record { buffer = length cells }) (record { editor = editor; calls = [] }) (Rows hits ∷ []) rows proper
-    (record { singles = singles; few = omega arith; cursor = refl; held = refl }) in
-    record { whole = sound.whole; phrases = sound.phrases }
-
--- also where the run and its combined rows were made in steps
-pub CoverCells-best_of : (system : List Row) (cells run : List ℕ) (hits rows : List Hit) (pieces : List Piece)
-    → AreRows system → AreProper hits → All (λ code. has_single system code ≡ true) cells → run ≡ cells → rows ≡ combined_hits system run hits
+-- the best pieces of a run of the cells have one character for each
+pub CoverCells-best_of : (cells run : List ℕ) (rows : List Hit) (pieces : List Piece) → AreProper rows → run ≡ cells
     → best_of rows [] [] (length run) ≡ Some pieces → CoverCells (length cells) pieces
-CoverCells-best_of system cells run hits rows pieces are_rows proper singles same combined best =
-    let known : best_of (combined_hits system cells hits) [] [] (length cells) ≡ Some pieces =
-    subst (λ r. best_of (combined_hits system r hits) [] [] (length r) ≡ Some pieces) same (subst (λ h. best_of h [] [] (length run) ≡ Some pieces) combined best) in
-    subst (CoverCells (length cells)) (ap (λ o. unwrap_or o []) known) (CoverCells-best_pieces system cells hits are_rows proper singles)
+CoverCells-best_of cells run rows pieces proper same best =
+    let covers = best-covers rows (length run) pieces proper best in
+    record { whole = covers.0 ∙ ap length same; phrases = covers.1 }
 
 -- the editor then
 pub finish-editor : (system : List Row) (whole : ConfiguredPending) (replies : List Reply) (settings : Settings) (held : Parts) (cells : List ℕ) (before pieces : List Piece) (calls : List Call) (hits : List Hit)

@@ -1,17 +1,14 @@
--- Hits of the code are proper, and its rows are rows.
+-- Hits of the code are proper.
 use Rattle.std.specs.Prelude.{◌≡◌, ◌+◌, Bool, true, ◌&&◌, All, List, [], ◌∷◌, length, chars, nat_le, ◌==◌}
 use Rattle.std.specs.List.{list_all}
 use Rattle.std.proofs.Common.{eqb-true}
 use Rattle.std.proofs.lemmas.Bool.{and_parts}
-use Rattle.std.proofs.lemmas.List.Elements.{All-cons, All-contains, All-nil}
+use Rattle.std.proofs.lemmas.List.Elements.{All-cons, All-nil}
 use Rattle.chew_spec_syllable.specs.Phrase.{is_phrase}
-use Rattle.chew_spec_syllable.specs.Row.{Row, greatest_freq, image_cmp, is_row}
+use Rattle.chew_spec_syllable.specs.Row.{greatest_freq}
 use Rattle.chew_spec_dictionary.specs.Call.{Hit, is_hit}
-use Rattle.chew_spec_dictionary.specs.Order.{in_order}
 use Rattle.chew_spec_phrasing.specs.Usable.{phrase_len}
-use Rattle.chew_spec_phrasing.proofs.InOrder.{Contains-from_in_order}
-use Rattle.chew_spec_phrasing.proofs.Membership.{All-from_Contains}
-use Rattle.chew_spec_editor.specs.Sound.{AreProper, AreRows}
+use Rattle.chew_spec_editor.specs.Sound.{AreProper}
 
 -- what a hit is
 hit-parts : (hit : Hit) → is_hit hit ≡ true → (is_phrase hit.phrase ≡ true) × (phrase_len hit.phrase ≡ hit.len)
@@ -30,20 +27,4 @@ AreProper-from_is_hit (hit ∷ hits) h =
     record {
       lengths = All-cons (λ x. phrase_len x.phrase ≡ x.len) hit hits parts.1 rest.lengths;
       phrases = All-cons (λ x. is_phrase x.phrase ≡ true) hit hits parts.0 rest.phrases;
-    }
-
--- the elements of a list that all pass
-All-from_list_all : (p : Row → Bool) (rows : List Row) → list_all p rows ≡ true → All (λ row. p row ≡ true) rows
-All-from_list_all p [] h = All-nil (λ row. p row ≡ true)
-All-from_list_all p (row ∷ rows) h =
-    let both = and_parts (p row) (list_all p rows) h in
-    All-cons (λ r. p r ≡ true) row rows both.0 (All-from_list_all p rows both.1)
-
--- rows of the code are rows, also in image order
-pub AreRows-in_order : (rows : List Row) → list_all is_row rows ≡ true → AreRows (in_order image_cmp rows)
-AreRows-in_order rows h =
-    let each = All-from_list_all is_row rows h in
-    record {
-      each = All-from_Contains (λ row. is_row row ≡ true) (in_order image_cmp rows)
-          (λ row among. All-contains (λ r. is_row r ≡ true) rows row each (Contains-from_in_order image_cmp rows row among));
     }

@@ -1,9 +1,6 @@
-ghost use Rattle.std.specs.Prelude.{◌≡◌, ◌<◌, ◌≤◌, [], All, IfOk, IsTrue, length, map, true};
-ghost use Rattle.std.specs.List.{list_all};
-ghost use Rattle.chew_spec_dictionary.specs.Call.{is_hit};
+ghost use Rattle.std.specs.Prelude.{◌≡◌, ◌<◌, ◌≤◌, [], All, IfOk, length, map, true};
 ghost use Rattle.chew_spec_dictionary.specs.System.{has_single};
 ghost use Rattle.chew_spec_editor.specs.Finish.{finish, rows_in};
-ghost use Rattle.chew_spec_editor.specs.Sound.{AreRows};
 ghost use Rattle.chew_spec_phrasing.specs.Best.{best_pieces};
 ghost use Rattle.chew_spec_phrasing.specs.Combined.{combined_hits};
 ghost use Rattle.chew_plain.specs.Call.{reply_of};
@@ -26,8 +23,7 @@ pub fn finish<L: Lexicon>(
     system: &L,
     replies: Vec<Reply>,
 ) -> Result<(Editor, Line), NoMemory>
-    requires rows { AreRows (L.rows system.now) }
-    requires singles { All (λ code. has_single (L.rows system.now) code ≡ true) pending.pending.editor.cells }
+    requires { All (λ code. has_single (L.rows system.now) code ≡ true) pending.pending.editor.cells }
     ensures editor { IfOk result (λ done. done.0.editor ≡ (finish (L.rows system.now) pending.pending (map reply_of replies.items)).editor) }
     ensures line { IfOk result (λ done. done.1 ≡ (finish (L.rows system.now) pending.pending (map reply_of replies.items)).line) }
     ensures settings { IfOk result (λ done. done.0.settings ≡ pending.settings) }
@@ -57,24 +53,11 @@ pub fn finish<L: Lexicon>(
 
 /// The rows that the reply to the look-up of the run gives.
 fn hits_in(replies: &[Reply]) -> &[Hit]
-    ensures value { result.now ≡ rows_in (map reply_of replies.now) }
-    ensures valid { IsTrue (list_all is_hit result.now) }
+    ensures { result.now ≡ rows_in (map reply_of replies.now) }
 {
     match replies {
-        [Reply::Rows(hits), ..] => {
-            all_are_hits(hits.list());
-            hits.list()
-        }
+        [Reply::Rows(hits), ..] => hits.list(),
         [] => &[],
-    }
-}
-
-/// What every hit keeps holds of each of these. It does nothing, and is there for proofs alone.
-fn all_are_hits(hits: &[Hit])
-    ensures { IsTrue (list_all is_hit hits.now) }
-{
-    for hit in hits {
-        let _phrase = &hit.phrase;
     }
 }
 
@@ -85,11 +68,9 @@ fn phrased<L: Lexicon>(
     cells: &[Syllable],
     hits: &[Hit],
 ) -> Result<Vec<Piece>, NoMemory>
-    requires rows { AreRows (L.rows system.now) }
     requires singles { All (λ code. has_single (L.rows system.now) code ≡ true) cells.now }
     requires some { 0 < length cells.now }
     requires short { length cells.now ≤ most_cells }
-    requires hits { IsTrue (list_all is_hit hits.now) }
     ensures best { IfOk result (λ pieces. pieces.items ≡ best_pieces (combined_hits (L.rows system.now) cells.now hits.now) [] [] (length cells.now)) }
     ensures cover { IfOk result (λ pieces. CoverCells (length cells.now) pieces.items) }
 {

@@ -1,8 +1,7 @@
-ghost use Rattle.std.specs.Prelude.{◌≡◌, ◌≤◌, All, IfOk, IsTrue, true};
-ghost use Rattle.std.specs.List.{list_all, list_any};
-ghost use Rattle.chew_spec_syllable.specs.Row.{is_pair_of, is_row, no_pair_twice};
+ghost use Rattle.std.specs.Prelude.{◌≡◌, ◌≤◌, All, IfOk, true};
+ghost use Rattle.std.specs.List.{list_any};
+ghost use Rattle.chew_spec_syllable.specs.Row.{is_pair_of, no_pair_twice};
 ghost use Rattle.chew_spec_dictionary.specs.System.{has_single};
-ghost use Rattle.chew_spec_editor.specs.Sound.{AreRows};
 
 use crate::{Editor, KeyStroke, Line, Pressed, Settings, Text, finish, press, print_line};
 use chew_plain::{Hits, Reply, RowMap};
@@ -84,15 +83,6 @@ fn are_apart(rows: &[KeyRow]) -> bool
     }
 }
 
-/// What every row keeps holds of each of these. It does nothing, and is there for proofs alone.
-fn all_are_rows(rows: &[KeyRow])
-    ensures { IsTrue (list_all is_row rows.now) }
-{
-    for row in rows {
-        let _freq = row.freq;
-    }
-}
-
 /// What a key does where the user's dictionary finds nothing.
 fn typed(
     alloc: Global,
@@ -100,8 +90,7 @@ fn typed(
     system: &RowMap,
     key: KeyStroke,
 ) -> Result<(Editor, Line), NoMemory>
-    requires rows { AreRows system.now }
-    requires singles { All (λ code. has_single system.now code ≡ true) editor.editor.cells }
+    requires { All (λ code. has_single system.now code ≡ true) editor.editor.cells }
     ensures { IfOk result (λ done. All (λ code. has_single system.now code ≡ true) done.0.editor.cells) }
 {
     match press(alloc, editor, system, key) {
@@ -115,9 +104,7 @@ fn typed(
 }
 
 /// The lines of these keys, on an editor that holds nothing.
-fn printed(alloc: Global, system: &RowMap, keys: &[KeyStroke]) -> Result<Vec<Text>, NoMemory>
-    requires { AreRows system.now }
-{
+fn printed(alloc: Global, system: &RowMap, keys: &[KeyStroke]) -> Result<Vec<Text>, NoMemory> {
     let mut lines = Vec::new(alloc);
     let mut editor = Editor::new(alloc, &Settings::standard());
     for key in keys {
@@ -134,7 +121,6 @@ fn keys_give_lines(rt: HostRuntime) -> Result<(), Fail> {
     let rows = five(alloc)?;
     assert_eq!(rt; rows.len(), 5);
     assert!(rt; are_apart(&rows));
-    all_are_rows(&rows);
     let system = RowMap::of(rows)?;
     let keys = [
         KeyStroke::Char(b' '),

@@ -1,4 +1,4 @@
--- The rows of a key, among rows in image order.
+-- The rows of a key, among those of a map.
 use Rattle.std.proofs.Common.{◌≡◌, ℕ, zero, suc, ◌-◌, ◌&&◌, ◌||◌, ◌==◌, Option, Some, ◌+◌, ◌≤◌, ◌<◌, ◌∙◌, Bool, true, false, not, List, [], ◌∷◌, length, take, drop, get_or, refl, ap, ap₂, leb, sym, cond, subst, ⊎_elim, Ordering, Less, Equal, Greater, is_lt, nat_cmp, true≢false, arith}
 use Rattle.std.specs.Cmp.{IsStrictWeakOrder}
 use Rattle.std.specs.List.{filter, AllWithin, find, list_any, slice_get}
@@ -15,15 +15,17 @@ use Rattle.std.proofs.lemmas.Option.{slice_get_read}
 use Rattle.std.proofs.Math.Dec.{eqb-suc-zero}
 use Rattle.std.proofs.lemmas.List.{get_or-drop, length-drop, take_rest}
 use Rattle.chew_spec_syllable.specs.Row.{Row, image_cmp, is_pair, is_row, greatest_freq}
-use Rattle.chew_spec_dictionary.specs.Order.{in_order}
-use Rattle.chew_spec_dictionary.specs.System.{is_under, rows_under, rows_of, phrase_cmp, row_of}
-use Rattle.chew_spec_dictionary.proofs.Sorting.{NoneBelow, Rises, less, rises_in_order, in_order_rises}
+use Rattle.chew_spec_dictionary.specs.Dictionary.{is_map}
+use Rattle.chew_spec_dictionary.specs.System.{is_under, rows_under, row_of}
+use Rattle.chew_spec_dictionary.proofs.ImageOrder.{image_total}
+use Rattle.chew_spec_dictionary.proofs.Once.{map_in_order}
+use Rattle.chew_spec_dictionary.proofs.Sorting.{NoneBelow, Rises, less, rises_in_order}
 use Rattle.chew_plain.specs.Order.{key_cmp}
-use Rattle.chew_plain.proofs.Orders.{key_total, image_total, pair_cmp_parts}
+use Rattle.chew_plain.proofs.Orders.{key_total, pair_cmp_parts}
 
--- rows in order rise
-pub rows_rise : (rows : List Row) → in_order image_cmp rows ≡ rows → Rises (less image_cmp) rows
-rows_rise rows e = subst (Rises (less image_cmp)) e (rises_in_order image_cmp (ranks_by image_total (λ (row : Row). row)) rows)
+-- the rows of a map rise
+rows_rise : (rows : List Row) → is_map rows ≡ true → Rises (less image_cmp) rows
+rows_rise rows m = subst (Rises (less image_cmp)) (map_in_order rows m) (rises_in_order image_cmp (ranks_by image_total (λ (row : Row). row)) rows)
 
 -- the key of a row is less than that of another
 abbrev key_less : List ℕ → List ℕ → Bool
@@ -95,8 +97,8 @@ upto_key key x y e l = ap not (weak.chain key y.key x.key (not_true (key_less ke
     not_true false h = refl
 
 -- the rows below a key come first
-pub below_key_first : (key : List ℕ) (rows : List Row) → in_order image_cmp rows ≡ rows → IsPartitionedBy (λ row. is_lt (key_cmp row.key key)) rows
-below_key_first key rows e = cut_in_two (less image_cmp) (λ row. is_lt (key_cmp row.key key)) (below_key key) rows (rows_rise rows e)
+pub below_key_first : (key : List ℕ) (rows : List Row) → is_map rows ≡ true → IsPartitionedBy (λ row. is_lt (key_cmp row.key key)) rows
+below_key_first key rows m = cut_in_two (less image_cmp) (λ row. is_lt (key_cmp row.key key)) (below_key key) rows (rows_rise rows m)
 
 -- what follows a front of rows that rise rises
 rises_drop : {X : Type 0} (lt : X → X → Bool) (n : ℕ) (xs : List X) → Rises lt xs → Rises lt (drop n xs)
@@ -105,8 +107,8 @@ rises_drop lt (suc n) [] h = tt
 rises_drop lt (suc n) (x ∷ xs) h = rises_drop lt n xs h.1
 
 -- the rows up to a key come first, behind any front
-pub upto_key_first : (key : List ℕ) (rows : List Row) (n : ℕ) → in_order image_cmp rows ≡ rows → IsPartitionedBy (λ row. not (is_lt (key_cmp key row.key))) (drop n rows)
-upto_key_first key rows n e = cut_in_two (less image_cmp) (λ row. not (is_lt (key_cmp key row.key))) (upto_key key) (drop n rows) (rises_drop (less image_cmp) n rows (rows_rise rows e))
+pub upto_key_first : (key : List ℕ) (rows : List Row) (n : ℕ) → is_map rows ≡ true → IsPartitionedBy (λ row. not (is_lt (key_cmp key row.key))) (drop n rows)
+upto_key_first key rows n m = cut_in_two (less image_cmp) (λ row. not (is_lt (key_cmp key row.key))) (upto_key key) (drop n rows) (rises_drop (less image_cmp) n rows (rows_rise rows m))
 
 -- a test that no row passes
 filter_none : {X : Type 0} (t : X → Bool) (xs : List X) → ((k : ℕ) (d : X) → k < length xs → t (get_or xs k d) ≡ false) → filter t xs ≡ []
@@ -153,32 +155,9 @@ rows_found key rows low count inside front back long =
     here : (row : Row) → is_lt (key_cmp key row.key) ≡ false → is_lt (key_cmp row.key key) ≡ false → is_under key row ≡ true
     here row a b = (bytes_eq-Decides row.key key).1 (keys_equal row.key key b a)
 
--- rows of one key that rise in image order rise in the order of their phrases
-phrases_rise_on : (row other : Row) → row.key ≡ other.key → is_lt (image_cmp row other) ≡ false → is_lt (phrase_cmp row other) ≡ false
-phrases_rise_on row other e l = ap is_lt (sym (ap (λ (o : Ordering). ordering_then o (phrase_cmp row other)) level) ∙ sym (pair_cmp_parts row.key row.phrase other.key other.phrase)) ∙ l
-  where
-    level : key_cmp row.key other.key ≡ Equal
-    level = ap (key_cmp row.key) (sym e) ∙ tied_itself key_total row.key
-
 -- a row under a key has it
 pub has_key : (key : List ℕ) (row : Row) → is_under key row ≡ true → row.key ≡ key
 has_key key row e = (bytes_eq-Decides row.key key).0 e
-
-none_below_phrase : (key : List ℕ) (x : Row) (rows : List Row) → x.key ≡ key → NoneBelow (less image_cmp) x rows → NoneBelow (less phrase_cmp) x (rows_under rows key)
-none_below_phrase key x [] e h = tt
-none_below_phrase key x (y ∷ ys) e h = cond_both (is_under key y) (y ∷ rows_under ys key) (rows_under ys key) (NoneBelow (less phrase_cmp) x)
-    (λ t. (phrases_rise_on y x (has_key key y t ∙ sym e) h.0, none_below_phrase key x ys e h.1))
-    (λ _. none_below_phrase key x ys e h.1)
-
-phrases_rise : (key : List ℕ) (rows : List Row) → Rises (less image_cmp) rows → Rises (less phrase_cmp) (rows_under rows key)
-phrases_rise key [] h = tt
-phrases_rise key (x ∷ xs) h = cond_both (is_under key x) (x ∷ rows_under xs key) (rows_under xs key) (Rises (less phrase_cmp))
-    (λ t. (none_below_phrase key x xs (has_key key x t) h.0, phrases_rise key xs h.1))
-    (λ _. phrases_rise key xs h.1)
-
--- among rows in image order, those of a key are in the order of their phrases
-pub rows_of_are : (key : List ℕ) (rows : List Row) → in_order image_cmp rows ≡ rows → rows_of rows key ≡ rows_under rows key
-rows_of_are key rows e = in_order_rises phrase_cmp (rows_under rows key) (phrases_rise key rows (rows_rise rows e))
 
 -- the row of a pair is the first of its key that has its phrase
 pub row_among : (key phrase : List ℕ) (rows : List Row) → find (λ (row : Row). bytes_eq row.phrase phrase) (rows_under rows key) ≡ row_of rows key phrase
@@ -202,8 +181,8 @@ all_have_key key [] i d l = absurd (omega arith)
 all_have_key key (row ∷ rows) i d l = all_have_by key row rows d (λ i l. all_have_key key rows i d l) (is_under key row) refl i l
 
 -- the same over the slice of what follows the rows below the key
-pub upto_key_first_in_rest : (key : List ℕ) (rows : List Row) (low : ℕ) → in_order image_cmp rows ≡ rows → IsPartitionedBy (λ row. not (is_lt (key_cmp key row.key))) (take (length rows - low) (drop low rows))
-upto_key_first_in_rest key rows low e = subst (IsPartitionedBy (λ row. not (is_lt (key_cmp key row.key)))) (sym (take_rest rows low)) (upto_key_first key rows low e)
+pub upto_key_first_in_rest : (key : List ℕ) (rows : List Row) (low : ℕ) → is_map rows ≡ true → IsPartitionedBy (λ row. not (is_lt (key_cmp key row.key))) (take (length rows - low) (drop low rows))
+upto_key_first_in_rest key rows low m = subst (IsPartitionedBy (λ row. not (is_lt (key_cmp key row.key)))) (sym (take_rest rows low)) (upto_key_first key rows low m)
 
 pub rows_found_in_rest : (key : List ℕ) (rows : List Row) (low count : ℕ)
     → low ≤ length rows

@@ -1,19 +1,17 @@
-ghost use Rattle.std.specs.Prelude.{◌≡◌};
+ghost use Rattle.std.specs.Prelude.{◌≡◌, IsTrue};
 ghost use Rattle.std.specs.List.{find};
 ghost use Rattle.std.specs.Option.{option_map_or};
 ghost use Rattle.std.specs.Str.{bytes_eq};
-ghost use Rattle.chew_spec_syllable.specs.Row.{image_cmp};
-ghost use Rattle.chew_spec_dictionary.specs.Order.{in_order};
-ghost use Rattle.chew_spec_dictionary.specs.System.{rows_under};
-ghost use Rattle.chew_spec_dictionary.specs.System.{greatest};
+ghost use Rattle.chew_spec_dictionary.specs.Dictionary.{is_map};
+ghost use Rattle.chew_spec_dictionary.specs.System.{greatest, rows_under};
 
 use crate::order::key_order;
 use chew_syllable::{KeyRow, Syllable};
 use std::cmp::max;
 
-/// The rows of a key among rows in image order, where they stand together.
+/// The rows of a key among those of a map, where they stand together.
 pub(crate) fn rows_at<'a>(rows: &'a [KeyRow], key: &[Syllable]) -> &'a [KeyRow]
-    requires { in_order image_cmp rows.now ≡ rows.now }
+    requires { IsTrue (is_map rows.now) }
     ensures { result.now ≡ rows_under rows.now key.now }
 {
     let low = rows.partition_point(|row| key_order(row.key.list(), key).is_lt());

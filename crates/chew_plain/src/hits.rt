@@ -1,6 +1,9 @@
-ghost use Rattle.std.specs.Prelude.{◌≡◌};
+ghost use Rattle.std.specs.Prelude.{◌≡◌, IsTrue};
+ghost use Rattle.std.specs.List.{list_all};
+ghost use Rattle.chew_spec_dictionary.specs.Call.{is_hit};
 
 use crate::hit::Hit;
+use crate::kept::all_are_hits;
 use std::marker::Model;
 
 /// What a look found, by the intervals' starts, then their lengths.
@@ -10,12 +13,15 @@ pub struct Hits {
 }
 
 impl Model for Hits {
-    ghost use Rattle.std.specs.Prelude.{List};
-    ghost use Rattle.chew_spec_dictionary.specs.Call.{Hit as Found};
+    ghost use Rattle.std.specs.Prelude.{IsTrue, List};
+    ghost use Rattle.std.specs.List.{list_all};
+    ghost use Rattle.chew_spec_dictionary.specs.Call.{Hit as Found, is_hit};
 
     ghost Value = { List Found };
 
     ghost view = { λ hits. hits.list.items };
+
+    ghost invariant = { λ hits. IsTrue (list_all is_hit hits.list.items) };
 }
 
 impl Hits {
@@ -23,12 +29,14 @@ impl Hits {
     pub fn of(list: Vec<Hit>) -> Hits
         ensures { result ≡ list.items }
     {
+        all_are_hits(list.as_slice());
         Hits { list }
     }
 
     /// The hits, in order.
     pub fn list(&self) -> &[Hit]
-        ensures { result.now ≡ self.now }
+        ensures value { result.now ≡ self.now }
+        ensures valid { IsTrue (list_all is_hit result.now) }
     {
         self.list.as_slice()
     }

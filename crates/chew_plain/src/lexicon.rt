@@ -1,5 +1,6 @@
 ghost use Rattle.std.specs.Prelude.{◌≡◌, ◌<◌, ◌≤◌, IsTrue, List, length, slice_get};
-ghost use Rattle.chew_spec_syllable.specs.Row.{Row, is_pair};
+ghost use Rattle.std.specs.List.{list_all};
+ghost use Rattle.chew_spec_syllable.specs.Row.{Row, is_pair, is_row, no_pair_twice};
 ghost use Rattle.chew_spec_dictionary.specs.System.{rows_of, has_single, freq_of, peak_of};
 
 use chew_syllable::Syllable;
@@ -15,13 +16,16 @@ pub struct RowRef<'a> {
     pub time: u64,
 }
 
-/// A list of rows with no pair twice, asked by the rows' keys. No call takes memory.
+/// A list of rows with no pair twice, asked by the rows' keys. `count` says so of the whole list. No call takes
+/// memory.
 pub trait Lexicon {
     ghost rows: { Self → List Row };
 
     /// How many rows the key has.
     fn count(&self, key: &[Syllable]) -> u32
-        ensures { result ≡ length (rows_of (rows self.now) key.now) };
+        ensures value { result ≡ length (rows_of (rows self.now) key.now) }
+        ensures each { IsTrue (list_all is_row (rows self.now)) }
+        ensures pairs { IsTrue (no_pair_twice (rows self.now)) };
 
     /// A row of the key, counted from 0 in the order of the phrases' bytes.
     fn row(&self, key: &[Syllable], i: u32) -> RowRef<'_>

@@ -7,6 +7,7 @@ mod entry;
 mod find;
 mod hit;
 mod hits;
+mod kept;
 mod lexicon;
 mod look;
 mod order;

@@ -1,8 +1,7 @@
 ghost use Rattle.std.specs.Prelude.{◌≡◌, ◌+◌, ◌<◌, ◌≤◌, ◌++◌, IsTrue, OnOk, IfOk, length, map};
 ghost use Rattle.std.specs.List.{All};
-ghost use Rattle.chew_spec_syllable.specs.Row.{image_cmp};
+ghost use Rattle.chew_spec_dictionary.specs.Dictionary.{is_map};
 ghost use Rattle.chew_spec_dictionary.specs.Look.{hit_of, hits_of};
-ghost use Rattle.chew_spec_dictionary.specs.Order.{in_order};
 ghost use Rattle.chew_plain.specs.Look.{interval, hits_at, hits_from};
 
 use crate::find::rows_at;
@@ -15,9 +14,9 @@ use std::cmp::min;
 /// The most syllables of an interval.
 const INTERVAL_LIMIT: usize = 11;
 
-/// All rows of all intervals of a run, among rows in image order.
+/// All rows of all intervals of a run, among those of a map.
 pub(crate) fn look(alloc: Global, rows: &[KeyRow], run: &[Syllable]) -> Result<Vec<Hit>, NoMemory>
-    requires ordered { in_order image_cmp rows.now ≡ rows.now }
+    requires map { IsTrue (is_map rows.now) }
     requires short { length run.now ≤ 39 }
     ensures { IfOk result (λ hits. hits.items ≡ hits_of rows.now run.now) }
 {
@@ -35,7 +34,7 @@ fn push_from(
     run: &[Syllable],
     start: usize,
 ) -> Result<(), NoMemory>
-    requires ordered { in_order image_cmp rows.now ≡ rows.now }
+    requires map { IsTrue (is_map rows.now) }
     requires short { length run.now ≤ 39 }
     requires inside { start < length run.now }
     ensures { OnOk result (hits.new.items ≡ hits.old.items ++ hits_from rows.now run.now start) }
@@ -55,7 +54,7 @@ fn push_at(
     start: usize,
     len: usize,
 ) -> Result<(), NoMemory>
-    requires ordered { in_order image_cmp rows.now ≡ rows.now }
+    requires map { IsTrue (is_map rows.now) }
     requires short { length run.now ≤ 39 }
     requires inside { start + len ≤ length run.now }
     requires some { 1 ≤ len }

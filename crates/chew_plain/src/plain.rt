@@ -1,5 +1,6 @@
 ghost use Rattle.std.specs.Prelude.{◌≡◌, ◌<◌, ◌^◌, IsTrue, IfOk, OnOk, OnErr, length};
 ghost use Rattle.chew_spec_syllable.specs.Row.{no_pair_twice, image_cmp};
+ghost use Rattle.chew_spec_dictionary.specs.Dictionary.{is_map};
 ghost use Rattle.chew_spec_dictionary.specs.Order.{in_order};
 ghost use Rattle.chew_spec_dictionary.specs.History.{answer, start_of};
 ghost use Rattle.chew_plain.specs.Call.{call_of, reply_of};
@@ -23,10 +24,9 @@ pub struct Plain {
 }
 
 impl Model for Plain {
-    ghost use Rattle.std.specs.Prelude.{◌≡◌, ◌<◌, ◌^◌, length, None};
-    ghost use Rattle.chew_spec_syllable.specs.Row.{image_cmp};
+    ghost use Rattle.std.specs.Prelude.{◌<◌, ◌^◌, IsTrue, length, None};
+    ghost use Rattle.chew_spec_dictionary.specs.Dictionary.{is_map};
     ghost use Rattle.chew_spec_dictionary.specs.History.{Point};
-    ghost use Rattle.chew_spec_dictionary.specs.Order.{in_order};
 
     ghost Value = { Point };
 
@@ -36,7 +36,7 @@ impl Model for Plain {
       dictionary = record { pairs = p.pairs.items; life = p.life; cap = p.cap };
     } };
 
-    ghost invariant = { λ p. (in_order image_cmp p.pairs.items ≡ p.pairs.items) × (length p.pairs.items < 2 ^ 32) };
+    ghost invariant = { λ p. IsTrue (is_map p.pairs.items) × (length p.pairs.items < 2 ^ 32) };
 }
 
 impl Plain {
@@ -45,7 +45,8 @@ impl Plain {
     pub fn of(mut rows: Vec<KeyRow>, life: u64, cap: u32) -> Result<Plain, NoMemory>
         requires pairs { IsTrue (no_pair_twice rows.items) }
         requires few { length rows.items < 2 ^ 32 }
-        ensures { IfOk result (λ plain. plain ≡ start_of (record { pairs = in_order image_cmp rows.items; life = life; cap = cap })) }
+        ensures value { IfOk result (λ plain. plain ≡ start_of (record { pairs = in_order image_cmp rows.items; life = life; cap = cap })) }
+        ensures map { IfOk result (λ plain. IsTrue (is_map plain.dictionary.pairs)) }
     {
         sort_rows(&mut rows)?;
         Ok(Plain {

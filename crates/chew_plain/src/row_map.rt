@@ -1,9 +1,12 @@
 ghost use Rattle.std.specs.Prelude.{◌≡◌, ◌<◌, ◌^◌, IsTrue, IfOk, length};
-ghost use Rattle.chew_spec_syllable.specs.Row.{no_pair_twice, image_cmp};
+ghost use Rattle.std.specs.List.{list_all};
+ghost use Rattle.chew_spec_syllable.specs.Row.{image_cmp, is_row, no_pair_twice};
+ghost use Rattle.chew_spec_dictionary.specs.Dictionary.{is_map};
 ghost use Rattle.chew_spec_dictionary.specs.Order.{in_order};
 ghost use Rattle.chew_spec_dictionary.specs.System.{rows_of, rows_under};
 
 use crate::find::{freq_among, peak_among, rows_at};
+use crate::kept::all_are_rows;
 use crate::lexicon::{Lexicon, RowRef};
 use crate::order::sort_rows;
 use chew_syllable::{KeyRow, NoMemory, Syllable};
@@ -16,15 +19,16 @@ pub struct RowMap {
 }
 
 impl Model for RowMap {
-    ghost use Rattle.std.specs.Prelude.{◌≡◌, ◌<◌, ◌^◌, List, length};
-    ghost use Rattle.chew_spec_syllable.specs.Row.{Row, image_cmp};
-    ghost use Rattle.chew_spec_dictionary.specs.Order.{in_order};
+    ghost use Rattle.std.specs.Prelude.{◌<◌, ◌^◌, IsTrue, List, length};
+    ghost use Rattle.std.specs.List.{list_all};
+    ghost use Rattle.chew_spec_syllable.specs.Row.{Row, is_row};
+    ghost use Rattle.chew_spec_dictionary.specs.Dictionary.{is_map};
 
     ghost Value = { List Row };
 
     ghost view = { λ map. map.rows.items };
 
-    ghost invariant = { λ map. (in_order image_cmp map.rows.items ≡ map.rows.items) × (length map.rows.items < 2 ^ 32) };
+    ghost invariant = { λ map. IsTrue (is_map map.rows.items) × IsTrue (list_all is_row map.rows.items) × (length map.rows.items < 2 ^ 32) };
 }
 
 impl RowMap {
@@ -32,9 +36,11 @@ impl RowMap {
     pub fn of(mut rows: Vec<KeyRow>) -> Result<RowMap, NoMemory>
         requires pairs { IsTrue (no_pair_twice rows.items) }
         requires few { length rows.items < 2 ^ 32 }
-        ensures { IfOk result (λ map. map ≡ in_order image_cmp rows.items) }
+        ensures value { IfOk result (λ map. map ≡ in_order image_cmp rows.items) }
+        ensures map { IfOk result (λ map. IsTrue (is_map map)) }
     {
         sort_rows(&mut rows)?;
+        all_are_rows(rows.as_slice());
         Ok(RowMap { rows })
     }
 
@@ -42,6 +48,8 @@ impl RowMap {
         ensures value { result.now ≡ rows_of self.now key.now }
         ensures under { result.now ≡ rows_under self.now key.now }
         ensures few { length result.now < 2 ^ 32 }
+        ensures each { IsTrue (list_all is_row self.now) }
+        ensures map { IsTrue (is_map self.now) }
     {
         rows_at(self.rows.as_slice(), key)
     }

@@ -64,7 +64,7 @@ pub apart : (x y : Row) (o : Ordering) → image_cmp x y ≡ o → (o ≡ Equal 
 apart x y o e other = false_from_ne_true _ (λ p. other (sym e ∙ pair_ties x y p))
 
 -- comparisons one after the other, grouped either way
-then_assoc : (o p q : Ordering) → ordering_then (ordering_then o p) q ≡ ordering_then o (ordering_then p q)
+pub then_assoc : (o p q : Ordering) → ordering_then (ordering_then o p) q ≡ ordering_then o (ordering_then p q)
 then_assoc Less p q = refl
 then_assoc Equal p q = refl
 then_assoc Greater p q = refl

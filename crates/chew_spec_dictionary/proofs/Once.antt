@@ -3,14 +3,14 @@
 use Rattle.std.proofs.Common.{◌≡◌, ℕ, Bool, true, false, List, [], ◌∷◌, not, refl, ap, sym, ◌∙◌, Ordering, Less, Equal, Greater, is_lt, Some, None, ap₂, ⊎_elim}
 use Rattle.std.specs.List.{filter, list_any, list_all}
 use Rattle.std.specs.Ordering.{ordering_reverse}
-use Rattle.std.proofs.lemmas.Bool.{cond_both, and_parts, and_from, or_parts, or_from, not-true, false_from_ne_true, true≢false}
+use Rattle.std.proofs.lemmas.Bool.{cond-false, cond_both, and_parts, and_from, or_parts, or_from, not-true, false_from_ne_true, true≢false}
 use Rattle.std.proofs.lemmas.List.Sorted.{list_any-IsPermutation, Contains-permutation, IsPermutation-sym}
 use Rattle.chew_spec_syllable.specs.Row.{Row, image_cmp, is_pair_of, no_pair_twice}
 use Rattle.chew_spec_dictionary.specs.Order.{put, in_order}
 use Rattle.chew_spec_dictionary.specs.System.{row_of}
 use Rattle.chew_spec_dictionary.specs.Dictionary.{is_map}
 use Rattle.chew_spec_dictionary.proofs.ImageOrder.{image_total, of_pair, is_of_pair, tie_is_pair}
-use Rattle.chew_spec_dictionary.proofs.Order.{put_permutes, order_permutes, order_rises, Rises, NoneBelow}
+use Rattle.chew_spec_dictionary.proofs.Order.{put_permutes, order_permutes, order_rises, Rises, NoneBelow, not_both}
 use Rattle.chew_spec_dictionary.proofs.Rows.{row_found}
 use Rattle.chew_spec_dictionary.proofs.Found.{found_is_row, none_is_row}
 use Rattle.chew_spec_dictionary.proofs.Learning.{held_or_not}
@@ -86,7 +86,21 @@ rising_map (x ∷ xs) n r =
 pub map_of_rows : (rows : List Row) → no_pair_twice rows ≡ true → is_map (in_order image_cmp rows) ≡ true
 map_of_rows rows n = rising_map (in_order image_cmp rows) (once_ordered image_cmp rows n) (order_rises image_cmp image_total rows)
 
--- and its look-ups answer as the rows' do
+-- a row below all others is put before them
+put_below : (row : Row) (rows : List Row) → list_all (λ later. is_lt (image_cmp row later)) rows ≡ true → put image_cmp row rows ≡ row ∷ rows
+put_below row [] b = refl
+put_below row (first ∷ rest) b =
+    let both = and_parts (is_lt (image_cmp row first)) (list_all (λ later. is_lt (image_cmp row later)) rest) b in
+    cond-false (is_lt (image_cmp first row)) (first ∷ put image_cmp row rest) (row ∷ (first ∷ rest)) (not_both image_cmp image_total row first both.0)
+
+-- a map is in image order already
+pub map_in_order : (rows : List Row) → is_map rows ≡ true → in_order image_cmp rows ≡ rows
+map_in_order [] m = refl
+map_in_order (row ∷ rows) m =
+    let both = and_parts (list_all (λ later. is_lt (image_cmp row later)) rows) (is_map rows) m in
+    ap (put image_cmp row) (map_in_order rows both.1) ∙ put_below row rows both.0
+
+-- the look-ups of rows put in image order answer as the rows' do
 pub map_answers : (rows : List Row) (key phrase : List ℕ) → no_pair_twice rows ≡ true → row_of (in_order image_cmp rows) key phrase ≡ row_of rows key phrase
 map_answers rows key phrase n = ⊎_elim
     (λ (h : (row : Row) × (row_of rows key phrase ≡ Some row)).

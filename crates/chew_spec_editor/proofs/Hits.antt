@@ -116,15 +116,19 @@ single-combined_hits system run hits cell singles h =
     (among.0, hit_of (cell_at cell) row.0, among.1, among.2, and_from (cell == cell) (1 == 1) (eq-eqb cell cell refl) refl)
 
 -- so the run has a segmentation
-pub CanSegment-combined_hits : (system : List Row) (run : List ℕ) (hits : List Hit) → AreRows system → AreProper hits
+pub CanSegment-proper : (system : List Row) (run : List ℕ) (hits : List Hit) → AreProper (combined_hits system run hits)
     → All (λ code. has_single system code ≡ true) run → CanSegment (combined_hits system run hits) [] (length run)
-CanSegment-combined_hits system run hits rows proper singles = record {
-  rows_have_lengths = (AreProper-combined_hits system run hits rows proper).lengths;
+CanSegment-proper system run hits proper singles = record {
+  rows_have_lengths = proper.lengths;
   choices_have_cells = All-nil (λ choice. 0 < phrase_len choice.phrase);
   choices_within = All-nil (λ choice. choice_end choice ≤ length run);
   choices_apart = AllPairs-nil (λ choice other. meets (interval_of choice) other ≡ false);
   has_singles = λ cell l free. single-combined_hits system run hits cell singles l;
 }
+
+pub CanSegment-combined_hits : (system : List Row) (run : List ℕ) (hits : List Hit) → AreRows system → AreProper hits
+    → All (λ code. has_single system code ≡ true) run → CanSegment (combined_hits system run hits) [] (length run)
+CanSegment-combined_hits system run hits rows proper = CanSegment-proper system run hits (AreProper-combined_hits system run hits rows proper)
 
 -- what a dictionary of proper rows answers
 found-hit : (rows : List Row) (run : List ℕ) (hit : Hit) → AreRows rows → Contains (hits_of rows run) hit → IsFor (record { start = hit.start; len = hit.len }) hit.phrase

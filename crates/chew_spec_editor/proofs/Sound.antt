@@ -1,5 +1,5 @@
 -- A talk keeps its editor sound.
-use Rattle.std.specs.Prelude.{◌≡◌, ◌≤◌, Bool, true, false, ◌&&◌, List, [], ◌∷◌, length, take, drop, sum, All, cond, nat_le, Option, Some, None, unwrap_or}
+use Rattle.std.specs.Prelude.{◌≡◌, ℕ, ◌≤◌, Bool, true, false, ◌&&◌, List, [], ◌∷◌, length, take, drop, sum, All, cond, nat_le, Option, Some, None, unwrap_or}
 use Rattle.std.specs.Option.{option_map, option_map_or}
 use Rattle.std.specs.Str.{chars}
 use Rattle.std.proofs.Common.{refl, ap, sym, subst, ◌∙◌, arith, le-leb}
@@ -15,7 +15,7 @@ use Rattle.chew_spec_syllable.specs.Key.{is_run}
 use Rattle.chew_spec_syllable.specs.Syllable.{is_code}
 use Rattle.chew_spec_dictionary.specs.Call.{Hit, Look, Reply, Rows, Learned, Full, Forgot, NotThere, Frozen, Installed}
 use Rattle.chew_spec_dictionary.specs.Look.{Interval}
-use Rattle.chew_spec_phrasing.specs.Best.{IsBest, best_pieces}
+use Rattle.chew_spec_phrasing.specs.Best.{IsBest, best_of, best_pieces}
 use Rattle.chew_spec_phrasing.specs.Combined.{combined_hits, is_hit_at}
 use Rattle.chew_spec_phrasing.specs.Segmentation.{IsSegmentation, lengths}
 use Rattle.chew_spec_phrasing.specs.Usable.{Piece, phrase_len, first_row, is_unbroken, keeps_choices, piece_at, piece_of_hit}
@@ -31,7 +31,7 @@ use Rattle.chew_spec_editor.specs.Press.{Pending, Pressed, Done, Ask, press}
 use Rattle.chew_spec_editor.specs.Sound.{AreProper, AreRows, IsPlaced, IsSound, hits_in}
 use Rattle.chew_spec_editor.specs.Talk.{Turn, turn_after, turn_of}
 use Rattle.chew_spec_editor.proofs.Characters.{length-chars-joined}
-use Rattle.chew_spec_editor.proofs.Hits.{AreProper-combined_hits, CanSegment-combined_hits, codes-singles}
+use Rattle.chew_spec_editor.proofs.Hits.{AreProper-combined_hits, CanSegment-combined_hits, CanSegment-proper, codes-singles}
 use Rattle.chew_spec_editor.proofs.Intervals.{All-pieces_from}
 use Rattle.chew_spec_editor.proofs.Placed.{press-asked, press-placed, press-sound}
 
@@ -53,6 +53,16 @@ phrase-piece_at : (rows : List Hit) (at : Interval) (piece : Piece) → All (λ 
 unfolding piece_at
 phrase-piece_at rows at piece phrases e = phrase-from_rows rows at piece phrases (nat_le at.len 11 && is_unbroken [] at) e
 
+-- the best pieces of proper rows have one character for each cell, and are phrases
+pub best-covers : (rows : List Hit) (n : ℕ) (pieces : List Piece) → AreProper rows → best_of rows [] [] n ≡ Some pieces
+    → (sum (lengths pieces) ≡ n) × All (λ piece. is_phrase piece.phrase ≡ true) pieces
+best-covers rows n pieces proper best =
+    let one : IsSegmentation (piece_at rows [] []) 0 n pieces = (IsBest-from_best_of rows [] [] n pieces (GivesOwn-piece_at rows [] [] proper.lengths) best).is_one in (
+      one.adds_up.whole,
+      All-pieces_from (λ piece. is_phrase piece.phrase ≡ true) (piece_at rows [] []) (λ at piece e. phrase-piece_at rows at piece proper.phrases e)
+          0 (lengths pieces) pieces one.are_usable,
+    )
+
 -- the replies to the calls of a key leave a placed editor sound
 pub finish-sound : (system : List Row) (settings : Settings) (pending : Pending) (replies : List Reply)
     → AreRows system → AreProper (rows_in replies) → IsPlaced system settings pending.editor → IsSound system settings (finish system pending replies).editor
@@ -61,16 +71,13 @@ finish-sound system settings pending replies rows proper placed =
     let run = pending.editor.cells in
     let hits = combined_hits system run (rows_in replies) in
     let known = AreProper-combined_hits system run (rows_in replies) rows proper in
-    let best = best_of-from_CanSegment hits [] [] (length run) (CanSegment-combined_hits system run (rows_in replies) rows proper placed.singles) in
-    let one : IsSegmentation (piece_at hits [] []) 0 (length run) best.0 =
-    (IsBest-from_best_of hits [] [] (length run) best.0 (GivesOwn-piece_at hits [] [] known.lengths) best.1).is_one in
+    let best = best_of-from_CanSegment hits [] [] (length run) (CanSegment-proper system run (rows_in replies) known placed.singles) in
+    let covers = best-covers hits (length run) best.0 known best.1 in
     let shown : best_pieces hits [] [] (length run) ≡ best.0 = ap (λ o. unwrap_or o []) best.1 in
     record {
       placed = record { singles = placed.singles; few = placed.few; cursor = placed.cursor; layout = placed.layout };
-      whole = ap (λ pieces. sum (lengths pieces)) shown ∙ one.adds_up.whole;
-      phrases = subst (All (λ piece. is_phrase piece.phrase ≡ true)) (sym shown)
-          (All-pieces_from (λ piece. is_phrase piece.phrase ≡ true) (piece_at hits [] []) (λ at piece e. phrase-piece_at hits at piece known.phrases e)
-          0 (lengths best.0) best.0 one.are_usable);
+      whole = ap (λ pieces. sum (lengths pieces)) shown ∙ covers.0;
+      phrases = subst (All (λ piece. is_phrase piece.phrase ≡ true)) (sym shown) covers.1;
     }
 
 -- no hits are proper

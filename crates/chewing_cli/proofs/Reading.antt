@@ -1,25 +1,21 @@
 -- What was read of a source, and what its value is.
 use Rattle.std.specs.Prelude.{◌≡◌, ℕ, ◌+◌, ◌≤◌, true, List, [], ◌∷◌, length, map, take, All, Option, Some, None, Result, Ok, Err, ok_or}
-use Rattle.std.specs.List.{list_all}
 use Rattle.std.specs.Option.{option_map}
-use Rattle.std.proofs.Common.{refl, ap, sym, subst, inl, inr, ◌∙◌, arith, is_lt}
-use Rattle.std.proofs.lemmas.Bool.{and_parts, cond_both}
+use Rattle.std.proofs.Common.{refl, ap, sym, subst, inl, inr, ◌∙◌, arith}
 use Rattle.std.proofs.lemmas.List.{length-map, length-take}
-use Rattle.std.proofs.lemmas.List.Elements.{All-cons, All-head, All-nil, All-tail}
+use Rattle.std.proofs.lemmas.List.Elements.{All-cons, All-nil}
 use Rattle.std.proofs.lemmas.List.Sorted.{ranks_by}
 use Rattle.chew_spec_outside.specs.Faults.{HasCause}
 use Rattle.chew_spec_outside.specs.Source.{ReadsUpTo}
-use Rattle.chew_spec_syllable.specs.Row.{Row, is_row, image_cmp}
-use Rattle.chew_spec_dictionary.specs.Order.{put, in_order}
+use Rattle.chew_spec_syllable.specs.Row.{Row, image_cmp}
+use Rattle.chew_spec_dictionary.specs.Order.{in_order}
 use Rattle.chew_spec_dictionary.proofs.ImageOrder.{image_total}
 use Rattle.chew_spec_dictionary.proofs.Sorting.{in_order_rises, rises_in_order}
-use Rattle.chew_spec_editor.specs.Sound.{AreRows}
 use Rattle.chew_spec_text.specs.Line.{KeyStroke}
 use Rattle.chew_spec_text.specs.Output.{Refusal, NoMemory, SourceFailed, WrongInput}
 use Rattle.chew_spec_text.specs.PlainScript.{plain_script}
 use Rattle.chew_spec_text.specs.PlainSystem.{plain_system}
 use Rattle.chew_spec_text.specs.Run.{IsReadOf, Watched, value_or_refusal}
-use Rattle.chew_spec_text.proofs.Rows.{is_new_row, plain}
 use Rattle.chew_spec_text.proofs.Script.{script_at_most, script_few}
 use Rattle.chewing_cli.specs.Opens.{IsOrNoMemory, Reads, system_rows, watched}
 
@@ -58,43 +54,19 @@ reads_refused value limit source = record { text = (unread source limit).0; read
 pub ordered_again : (rows : List Row) → in_order image_cmp (in_order image_cmp rows) ≡ in_order image_cmp rows
 ordered_again rows = in_order_rises image_cmp (in_order image_cmp rows) (rises_in_order image_cmp (ranks_by image_total (λ (row : Row). row)) rows)
 
--- what is true of all elements is true of them in order
-All-put : {X : Type 0} (P : X → Type 0) (cmp : X → X → _) (x : X) (xs : List X) → P x → All P xs → All P (put cmp x xs)
-All-put P cmp x [] first rest = All-cons P x [] first rest
-All-put P cmp x (y ∷ ys) first rest =
-    cond_both (is_lt (cmp y x)) (y ∷ put cmp x ys) (x ∷ (y ∷ ys)) (All P)
-    (λ _. All-cons P y (put cmp x ys) (All-head P y ys rest) (All-put P cmp x ys first (All-tail P y ys rest)))
-    (λ _. All-cons P x (y ∷ ys) first rest)
-
-All-in_order : {X : Type 0} (P : X → Type 0) (cmp : X → X → _) (xs : List X) → All P xs → All P (in_order cmp xs)
-All-in_order P cmp [] all = all
-All-in_order P cmp (x ∷ xs) all = All-put P cmp x (in_order cmp xs) (All-head P x xs all) (All-in_order P cmp xs (All-tail P x xs all))
-
-new_rows : (rows : List Row) → list_all is_new_row rows ≡ true → All (λ row. is_row row ≡ true) rows
-new_rows [] e = All-nil (λ row. is_row row ≡ true)
-new_rows (row ∷ rows) e =
-    let parts = and_parts (is_new_row row) (list_all is_new_row rows) e in
-    All-cons (λ r. is_row r ≡ true) row rows (and_parts _ _ parts.0).0 (new_rows rows parts.1)
-
--- the rows of a system in the plain form are rows, also in image order
-rows_given : (text : List ℕ) (o : Option (List Row)) (rows : List Row) → plain_system text ≡ o → option_map (in_order image_cmp) o ≡ Some rows → AreRows rows × (in_order image_cmp rows ≡ rows)
-rows_given text None rows is e = absurd cc
-rows_given text (Some had) rows is e =
-    let same : in_order image_cmp had ≡ rows = cc in (
-      subst AreRows same (record { each = All-in_order (λ row. is_row row ≡ true) image_cmp had (new_rows had (plain text had is).all) }),
-      subst (λ (l : List Row). in_order image_cmp l ≡ l) same (ordered_again had),
-    )
-
-pub are_rows : (text : List ℕ) (rows : List Row) → system_rows text ≡ Some rows → AreRows rows × (in_order image_cmp rows ≡ rows)
-are_rows text rows e = rows_given text (plain_system text) rows refl e
+-- the rows of a system in the plain form are given in image order
+rows_given : (o : Option (List Row)) (rows : List Row) → option_map (in_order image_cmp) o ≡ Some rows → in_order image_cmp rows ≡ rows
+rows_given None rows e = absurd cc
+rows_given (Some had) rows e =
+    let same : in_order image_cmp had ≡ rows = cc in
+    subst (λ (l : List Row). in_order image_cmp l ≡ l) same (ordered_again had)
 
 -- the map that is made of them
 pub map_of_rows : (text : List ℕ) (rows made : List Row) → system_rows text ≡ Some rows → made ≡ in_order image_cmp rows
-    → AreRows made × (value_or_refusal system_rows (Some text) ≡ Ok made)
+    → value_or_refusal system_rows (Some text) ≡ Ok made
 map_of_rows text rows made e is =
-    let known = are_rows text rows e in
-    let same : rows ≡ made = sym (is ∙ known.1) in
-    (subst AreRows same known.0, ap (λ (o : Option (List Row)). ok_or o WrongInput) e ∙ ap Ok same)
+    let same : rows ≡ made = sym (is ∙ rows_given (plain_system text) rows e) in
+    ap (λ (o : Option (List Row)). ok_or o WrongInput) e ∙ ap Ok same
 
 -- a text that has not the plain form
 pub wrong_system : (text : List ℕ) → plain_system text ≡ None → value_or_refusal system_rows (Some text) ≡ Err WrongInput

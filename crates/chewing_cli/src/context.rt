@@ -1,5 +1,4 @@
 ghost use Rattle.std.specs.Prelude.{◌≡◌, ◌++◌, ◌≤◌, IfOk, OnErr, length, map};
-ghost use Rattle.chew_spec_editor.specs.Sound.{AreRows};
 ghost use Rattle.chew_spec_text.specs.Output.{header};
 ghost use Rattle.chewing_cli.specs.Done.{progress_of};
 ghost use Rattle.chewing_cli.specs.Keys.{keys_of};
@@ -20,7 +19,6 @@ pub(crate) fn run_context(
     who: u32,
     keys: &[KeyStroke],
 ) -> u32
-    requires rows { AreRows system.now }
     requires few { length keys.now ≤ 65_536 }
     requires fresh { IsFresh (ground_of system.now) who (progress_of work.old) }
     ensures ran { Ran (ground_of system.now) who (keys_of keys.now) (progress_of work.old) (progress_of work.new) result }
@@ -39,7 +37,6 @@ pub(crate) fn run_context(
 
 /// Handles keys behind the header.
 fn handle_keys(alloc: Global, system: &RowMap, work: &mut Work, who: u32, keys: &[KeyStroke]) -> u32
-    requires rows { AreRows system.now }
     requires few { length keys.now ≤ 65_536 }
     requires fresh { IsFresh (ground_of system.now) who (progress_of work.old) }
     ensures handled { Handled (ground_of system.now) who (keys_of keys.now) (progress_of work.old) (progress_of work.new) result }

@@ -1,7 +1,6 @@
 ghost use Rattle.std.specs.Prelude.{◌≡◌, ◌++◌, All, IfOk, OnErr, map, true};
 ghost use Rattle.chew_spec_dictionary.specs.System.{has_single};
 ghost use Rattle.chew_spec_editor.specs.Finish.{finish};
-ghost use Rattle.chew_spec_editor.specs.Sound.{AreRows};
 ghost use Rattle.chew_spec_text.specs.Line.{line_text};
 ghost use Rattle.chew_editor.specs.Keys.{key_of};
 ghost use Rattle.chew_plain.specs.Call.{call_of, reply_of};
@@ -23,8 +22,7 @@ pub(crate) fn handle_key(
     editor: Editor,
     key: KeyStroke,
 ) -> Result<Editor, NoMemory>
-    requires rows { AreRows system.now }
-    requires singles { All (λ code. has_single system.now code ≡ true) editor.editor.cells }
+    requires { All (λ code. has_single system.now code ≡ true) editor.editor.cells }
     ensures ok { IfOk result (λ next. Turns system.now editor.settings who (key_of key) editor.editor (progress_of work.old) (progress_of work.new) next.editor) }
     ensures singles { IfOk result (λ next. All (λ code. has_single system.now code ≡ true) next.editor.cells) }
     ensures settings { IfOk result (λ next. next.settings ≡ editor.settings) }
@@ -51,8 +49,7 @@ fn answer(
     who: u32,
     pending: Pending,
 ) -> Result<Editor, NoMemory>
-    requires rows { AreRows system.now }
-    requires singles { All (λ code. has_single system.now code ≡ true) pending.pending.editor.cells }
+    requires { All (λ code. has_single system.now code ≡ true) pending.pending.editor.cells }
     ensures ok { IfOk result (λ next. next.editor ≡ (finish system.now pending.pending (heard work.old.plain who pending.pending.calls)).editor) }
     ensures singles { IfOk result (λ next. All (λ code. has_single system.now code ≡ true) next.editor.cells) }
     ensures settings { IfOk result (λ next. next.settings ≡ pending.settings) }

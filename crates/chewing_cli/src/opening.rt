@@ -1,5 +1,4 @@
 ghost use Rattle.std.specs.Prelude.{◌≡◌, ◌<◌, ◌≤◌, ◌^◌, All, Err, IfOk, false, length, map};
-ghost use Rattle.chew_spec_editor.specs.Sound.{AreRows};
 ghost use Rattle.chew_spec_text.specs.Command.{is_run_command};
 ghost use Rattle.chew_spec_text.specs.Output as spec;
 ghost use Rattle.chew_spec_text.specs.PlainScript.{plain_script, script_limit};
@@ -39,7 +38,6 @@ pub(crate) fn open<I: Source, Y: Source>(
         (watched (I.left script.old) (I.faults script.old) (I.faults script.new))
         (outcome_of inputs_as result) }
     ensures words { is_run_command (map (λ word. word.now) words.now) ≡ false → outcome_of inputs_as result ≡ Err spec.WrongWords }
-    ensures rows { IfOk result (λ inputs. AreRows inputs.system) }
     ensures contexts { IfOk result (λ inputs. length inputs.contexts.items ≤ 1) }
     ensures keys { IfOk result (λ inputs. All (λ keys. length keys.items ≤ 65_536) inputs.contexts.items) }
 {
@@ -61,8 +59,7 @@ pub(crate) fn open<I: Source, Y: Source>(
 
 /// Reads the system.
 fn open_system<Y: Source>(alloc: Global, source: &mut Y) -> Result<RowMap, Refusal>
-    ensures reads { Reads system_rows system_limit (watched (Y.left source.old) (Y.faults source.old) (Y.faults source.new)) (outcome_of (λ rows. rows) result) }
-    ensures rows { IfOk result (λ rows. AreRows rows) }
+    ensures { Reads system_rows system_limit (watched (Y.left source.old) (Y.faults source.old) (Y.faults source.new)) (outcome_of (λ rows. rows) result) }
 {
     match read_up_to(alloc, source, SYSTEM_LIMIT) {
         Ok(text) => system_of(alloc, text.as_slice()),
@@ -73,8 +70,7 @@ fn open_system<Y: Source>(alloc: Global, source: &mut Y) -> Result<RowMap, Refus
 
 /// The rows of a text, in image order.
 fn system_of(alloc: Global, text: &[u8]) -> Result<RowMap, Refusal>
-    ensures gives { IsOrNoMemory (value_or_refusal system_rows (Some text.now)) (outcome_of (λ rows. rows) result) }
-    ensures rows { IfOk result (λ rows. AreRows rows) }
+    ensures { IsOrNoMemory (value_or_refusal system_rows (Some text.now)) (outcome_of (λ rows. rows) result) }
 {
     match read_plain_system(alloc, text) {
         Ok(rows) => match RowMap::of(rows) {

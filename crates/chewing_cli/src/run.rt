@@ -1,5 +1,4 @@
 ghost use Rattle.std.specs.Prelude.{◌≡◌, ◌≤◌, All, [], false, length, map, if◌then◌else◌};
-ghost use Rattle.chew_spec_editor.specs.Sound.{AreRows};
 ghost use Rattle.chewing_cli.specs.Done.{ended_of, progress_of};
 ghost use Rattle.chewing_cli.specs.Keys.{keys_of};
 ghost use Rattle.chewing_cli.specs.Opens.{inputs_as};
@@ -23,7 +22,6 @@ const CAP: u32 = 65_536;
 
 /// Handles the keys of all contexts, and writes their lines.
 pub(crate) fn run<O: Sink>(alloc: Global, inputs: &Inputs, sink: &mut O) -> Done
-    requires rows { AreRows inputs.now.system }
     requires contexts { length inputs.now.contexts.items ≤ 1 }
     requires keys { All (λ keys. length keys.items ≤ 65_536) inputs.now.contexts.items }
     ensures { Runs (inputs_as inputs.now) (ground_of inputs.now.system).settings (ground_of inputs.now.system).start
@@ -70,7 +68,6 @@ fn run_contexts(
     work: &mut Work,
     contexts: &[Vec<KeyStroke>],
 ) -> ArrayVec<u32, 16>
-    requires rows { AreRows system.now }
     requires contexts { length contexts.now ≤ 16 }
     requires keys { All (λ keys. length keys.items ≤ 65_536) contexts.now }
     requires begins { progress_of work.old ≡ record { journal = []; point = (ground_of system.now).start; text = []; refused = false } }

@@ -22,8 +22,9 @@ pub fn maps_by_look_ups()
 {}
 
 /// Rows with no pair twice, in any order, are a map once they are put in image order, and its
-/// look-ups answer as the rows' do.
+/// look-ups answer as the rows' do. A map is in image order already.
 pub fn maps_of_rows()
     ensures map { (rows : List Row) → no_pair_twice rows ≡ true → is_map (in_order image_cmp rows) ≡ true }
+    ensures already { (rows : List Row) → is_map rows ≡ true → in_order image_cmp rows ≡ rows }
     ensures answers { (rows : List Row) (key phrase : List ℕ) → no_pair_twice rows ≡ true → row_of (in_order image_cmp rows) key phrase ≡ row_of rows key phrase }
 {}

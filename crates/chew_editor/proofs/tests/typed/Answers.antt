@@ -5,6 +5,6 @@ use Rattle.chew_spec_dictionary.specs.System.{has_single}
 use Rattle.chew_editor.specs.Pressed.{cells_of}
 use Rattle.chew_editor.proofs.tests.typed.Goals as goal
 
-pub finish-requires-clause-singles : goal.finish-requires-clause-singles
-finish-requires-clause-singles c =
-    subst (λ pressed. All (λ code. has_single c.args.system.now code ≡ true) (cells_of pressed)) c.in-Ok-Ask.field-0-is (c.in-Ok-Ask.ensures.singles c.requires.singles)
+pub finish-requires : goal.finish-requires
+finish-requires c =
+    subst (λ pressed. All (λ code. has_single c.args.system.now code ≡ true) (cells_of pressed)) c.in-Ok-Ask.field-0-is (c.in-Ok-Ask.ensures.singles c.requires)

@@ -8,9 +8,9 @@ use Rattle.chewing_cli.specs.Done.{progress_of}
 use Rattle.chewing_cli.proofs.Turned.{turns_asked, turns_done, stops_within}
 use Rattle.chewing_cli.proofs.keying.handle_key.Goals as goal
 
-pub answer-requires-clause-singles : goal.answer-requires-clause-singles
-answer-requires-clause-singles c =
-    subst (λ (p : _). All (λ code. has_single c.args.system.now code ≡ true) (cells_of p)) c.in-Ok-Ask.field-0-is (c.in-Ok-Ask.ensures.singles c.requires.singles)
+pub answer-requires : goal.answer-requires
+answer-requires c =
+    subst (λ (p : _). All (λ code. has_single c.args.system.now code ≡ true) (cells_of p)) c.in-Ok-Ask.field-0-is (c.in-Ok-Ask.ensures.singles c.requires)
 
 pub returns-in-Ok-clause-ok : goal.returns-in-Ok-clause-ok
 returns-in-Ok-clause-ok c =
@@ -21,7 +21,7 @@ returns-in-Ok-clause-ok c =
 
 pub returns-in-Ok-clause-singles : goal.returns-in-Ok-clause-singles
 returns-in-Ok-clause-singles c =
-    subst (λ (p : _). All (λ code. has_single c.args.system.now code ≡ true) (cells_of p)) c.in-Ok-Done.field-0-is (c.in-Ok-Done.ensures.singles c.requires.singles)
+    subst (λ (p : _). All (λ code. has_single c.args.system.now code ≡ true) (cells_of p)) c.in-Ok-Done.field-0-is (c.in-Ok-Done.ensures.singles c.requires)
 
 pub returns-in-Ok-answer-clause-ok : goal.returns-in-Ok-answer-clause-ok
 returns-in-Ok-answer-clause-ok c =

@@ -12,16 +12,16 @@ returns-then-not-is_run-clause-opens g c = opens_words (map (λ word. word.now) 
 pub returns-in-Err-clause-opens : goal.returns-in-Err-clause-opens
 returns-in-Err-clause-opens g c =
     let formed : is_run_command (map (λ word. word.now) c.args.words.now) ≡ true = sym c.is_run.ensures ∙ c.if-not-is_run.false in
-    opens_system (map (λ word. word.now) c.args.words.now) _ _ (kind_of c.in-Err.refusal) formed c.in-Err.ensures.reads
+    opens_system (map (λ word. word.now) c.args.words.now) _ _ (kind_of c.in-Err.refusal) formed c.in-Err.ensures
 
 pub returns-in-Ok-open_script-clause-opens : goal.returns-in-Ok-open_script-clause-opens
 returns-in-Ok-open_script-clause-opens g c =
     let formed : is_run_command (map (λ word. word.now) c.args.words.now) ≡ true = sym c.is_run.ensures ∙ c.if-not-is_run.false in
     opens_script (map (λ word. word.now) c.args.words.now) _ _ c.in-Ok.rows (Ok (map (λ keys. keys_of keys.items) c.in-Ok-open_script.contexts.items)) formed
-    c.in-Ok.ensures.reads c.in-Ok-open_script.ensures.reads
+    c.in-Ok.ensures c.in-Ok-open_script.ensures.reads
 
 pub returns-in-Err-open_script-clause-opens : goal.returns-in-Err-open_script-clause-opens
 returns-in-Err-open_script-clause-opens g c =
     let formed : is_run_command (map (λ word. word.now) c.args.words.now) ≡ true = sym c.is_run.ensures ∙ c.if-not-is_run.false in
     opens_script (map (λ word. word.now) c.args.words.now) _ _ c.in-Ok.rows (Err (kind_of c.in-Err-open_script.refusal)) formed
-    c.in-Ok.ensures.reads c.in-Err-open_script.ensures.reads
+    c.in-Ok.ensures c.in-Err-open_script.ensures.reads

@@ -8,11 +8,11 @@ use Rattle.chewing_cli.specs.Refusals.{outcome_of}
 use Rattle.chewing_cli.proofs.Reading.{reads_refused, reads_text}
 use Rattle.chewing_cli.proofs.opening.open_system.Goals as goal
 
-pub returns-in-Ok-clause-reads : goal.returns-in-Ok-clause-reads
-returns-in-Ok-clause-reads g c =
+pub returns-in-Ok : goal.returns-in-Ok
+returns-in-Ok g c =
     reads_text system_rows system_limit (g.Y.Source.left c.args.source.now) (g.Y.Source.left c.read_up_to.new.source) (g.Y.Source.faults c.args.source.now)
     (g.Y.Source.faults c.read_up_to.new.source) c.in-Ok.text.items (outcome_of (λ (rows : List Row). rows) c.system_of.result) c.in-Ok.ensures.ok
-    (subst (λ (text : List ℕ). IsOrNoMemory (value_or_refusal system_rows (Some text)) (outcome_of (λ (rows : List Row). rows) c.system_of.result)) c.as_slice.ensures.value c.system_of.ensures.gives)
+    (subst (λ (text : List ℕ). IsOrNoMemory (value_or_refusal system_rows (Some text)) (outcome_of (λ (rows : List Row). rows) c.system_of.result)) c.as_slice.ensures.value c.system_of.ensures)
 
-pub returns-in-Err-NoMemory-clause-reads : goal.returns-in-Err-NoMemory-clause-reads
-returns-in-Err-NoMemory-clause-reads g c = reads_refused system_rows system_limit _
+pub returns-in-Err-NoMemory : goal.returns-in-Err-NoMemory
+returns-in-Err-NoMemory g c = reads_refused system_rows system_limit _

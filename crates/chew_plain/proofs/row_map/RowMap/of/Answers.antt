@@ -1,7 +1,17 @@
--- The rows were put in order.
-use Rattle.std.proofs.Common.{arith}
-use Rattle.chew_plain.proofs.Orders.{rows_sorted}
+-- The rows were put in order, and no pair stands twice.
+use Rattle.std.proofs.Common.{arith, ap, sym, ◌∙◌}
+use Rattle.std.specs.List.{list_all}
+use Rattle.chew_spec_syllable.specs.Row.{is_row}
+use Rattle.chew_spec_dictionary.specs.Dictionary.{is_map}
+use Rattle.chew_spec_dictionary.proofs.Once.{map_of_rows}
 use Rattle.chew_plain.proofs.row_map.RowMap.of.Goals as goal
 
 pub invariant_of-result : goal.invariant_of-result
-invariant_of-result c = (rows_sorted c.args.rows.items _ c.in_ok-sort_rows.ensures.ok, omega (arith, c.sort_rows.ensures.len, c.requires.few))
+invariant_of-result c = (
+  ap is_map c.in_ok-sort_rows.ensures.ok ∙ map_of_rows c.args.rows.items c.requires.pairs,
+  ap (list_all is_row) (sym c.as_slice.ensures.value) ∙ c.all_are_rows.ensures,
+  omega (arith, c.sort_rows.ensures.len, c.requires.few),
+)
+
+pub returns-clause-map : goal.returns-clause-map
+returns-clause-map c = ap is_map c.in_ok-sort_rows.ensures.ok ∙ map_of_rows c.args.rows.items c.requires.pairs

@@ -1,8 +1,8 @@
+-- Those so far are rows.
 use Rattle.std.proofs.Common.{◌≡◌, true, take}
 use Rattle.std.specs.List.{list_all}
 use Rattle.chew_spec_syllable.specs.Row.{is_row}
-use Rattle.chew_editor.proofs.tests.all_are_rows.Given as goal
+use Rattle.chew_plain.proofs.kept.all_are_rows.Given as goal
 
--- those so far are rows
 abbrev pub invariant-loop-row : goal.invariant-loop-row
 invariant-loop-row l = list_all is_row (take l.row-index l.rows) ≡ true
