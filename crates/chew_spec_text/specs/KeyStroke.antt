@@ -56,6 +56,25 @@ key_names =
     ∷ (named (codes "T") Tab ∷ (named (codes "X") Esc ∷ (named (codes "lt") (Char 60) ∷ []))))))))))))) ++
     (map (named_for (codes "C") Add) (range_with_len 2 8) ++ map (named_for (codes "F") Forget) (range_with_len 1 9))
 
+-- the text of a key: itself, or its name between '<' and '>'
+abbrev pub key_text : KeyStroke → List ℕ
+key_text (Char byte) = if byte == 60 then codes "<lt>" else byte ∷ []
+key_text Enter = codes "<E>"
+key_text Backspace = codes "<B>"
+key_text Delete = codes "<D>"
+key_text Left = codes "<L>"
+key_text Right = codes "<R>"
+key_text Home = codes "<H>"
+key_text End = codes "<Z>"
+key_text Up = codes "<U>"
+key_text Down = codes "<V>"
+key_text PageUp = codes "<P>"
+key_text PageDown = codes "<N>"
+key_text Tab = codes "<T>"
+key_text Esc = codes "<X>"
+key_text (Add cells) = codes "<C" ++ (decimal cells ++ codes ">")
+key_text (Forget cells) = codes "<F" ++ (decimal cells ++ codes ">")
+
 -- the key of a name
 abbrev pub key_named : List ℕ → Option KeyStroke
 key_named name = option_map (λ entry. entry.key) (find (λ entry. bytes_eq entry.name name) key_names)

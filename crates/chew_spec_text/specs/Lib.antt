@@ -7,5 +7,6 @@ pub mod Lines
 pub mod Output
 pub mod RowText
 pub mod Run
+pub mod Said
 pub mod Sample
 pub mod Script

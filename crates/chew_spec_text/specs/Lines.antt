@@ -1,10 +1,14 @@
 -- The lines of a text that comes in, and the first of them that can't be taken.
-use Rattle.std.specs.Prelude.{ℕ, suc, ◌-◌, List, [], ◌∷◌, ◌++◌, length, take, map, nat_eq, ◌==◌, if◌then◌else◌, Result, Ok, Err}
-use Rattle.std.specs.List.{ends_with, slice_split}
+use Rattle.std.specs.Prelude.{ℕ, suc, ◌-◌, Bool, not, List, [], ◌∷◌, ◌++◌, length, take, map, nat_eq, ◌==◌, if◌then◌else◌, Result, Ok, Err}
+use Rattle.std.specs.List.{ends_with, list_any, slice_split}
 
 -- the line without the carriage return at its end, of which one is dropped
 abbrev pub without_return : List ℕ → List ℕ
 without_return line = if ends_with nat_eq line (13 ∷ []) then take (length line - 1) line else line
+
+-- the line has no line feed
+abbrev pub is_line : List ℕ → Bool
+is_line line = not (list_any (λ byte. byte == 10) line)
 
 -- the line and a carriage return behind it
 abbrev pub with_return : List ℕ → List ℕ

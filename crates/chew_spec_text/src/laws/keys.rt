@@ -1,7 +1,8 @@
 //! Laws and known values of keys and their names.
 
-ghost use Rattle.std.specs.Prelude.{◌≡◌, [], ◌∷◌, Some, None, map, codes};
-ghost use Rattle.chew_spec_text.specs.KeyStroke.{Char, Enter, Backspace, Delete, Left, Right, Home, End, Up, Down, PageUp, PageDown, Tab, Esc, Add, Forget, key_named, keys_in};
+ghost use Rattle.std.specs.Prelude.{◌≡◌, ℕ, List, [], ◌∷◌, Some, None, IsTrue, flat_map, map, codes};
+ghost use Rattle.std.specs.List.{list_all};
+ghost use Rattle.chew_spec_text.specs.KeyStroke.{KeyStroke, Char, Enter, Backspace, Delete, Left, Right, Home, End, Up, Down, PageUp, PageDown, Tab, Esc, Add, Forget, is_key_stroke, is_printable, key_named, key_text, keys_in};
 
 /// The key of each name, and words that are no names.
 pub fn known_names()
@@ -23,4 +24,11 @@ pub fn known_keys()
     ensures two { keys_in (codes "<<E>") ≡ None }
     ensures unnamed { keys_in (codes "<>") ≡ None }
     ensures other { keys_in (codes "4<Q>") ≡ None }
+{}
+
+/// The keys of a text of printable characters are keys of a script; and keys of a script, printed, are read as
+/// themselves.
+pub fn printed_keys()
+    ensures in_range { (text : List ℕ) (keys : List KeyStroke) → IsTrue (list_all is_printable text) → keys_in text ≡ Some keys → IsTrue (list_all is_key_stroke keys) }
+    ensures read { (keys : List KeyStroke) → IsTrue (list_all is_key_stroke keys) → keys_in (flat_map key_text keys) ≡ Some keys }
 {}

@@ -1,10 +1,13 @@
 //! Laws and known values of scripts.
 
-ghost use Rattle.std.specs.Prelude.{◌≡◌, [], ◌∷◌, ◌++◌, Ok, Err, flat_map, map, codes};
-ghost use Rattle.chew_spec_text.specs.KeyStroke.{Char, Enter};
+ghost use Rattle.std.specs.Prelude.{◌≡◌, ℕ, ◌+◌, ◌<◌, ◌≤◌, List, [], ◌∷◌, ◌++◌, length, take, filter, fold, Ok, Err, IsTrue, flat_map, map, max, codes, replicate, slice_index_or};
+ghost use Rattle.std.specs.List.{count_by, join_with_byte, list_all};
+ghost use Rattle.std.specs.Result.{result_ok};
+ghost use Rattle.chew_spec_text.specs.KeyStroke.{Char, Enter, is_key_stroke};
 ghost use Rattle.chew_spec_text.specs.Line.{with_line_feed};
-ghost use Rattle.chew_spec_text.specs.Lines.{with_return};
-ghost use Rattle.chew_spec_text.specs.Script.{script_of, Byte, Form, Context, Key};
+ghost use Rattle.chew_spec_text.specs.Lines.{Fault, is_line, lines_of, with_return, without_return};
+ghost use Rattle.chew_spec_text.specs.Said.{context_of, is_round, keys_for, says_something};
+ghost use Rattle.chew_spec_text.specs.Script.{Script, ScriptCause, Size, Byte, Form, Context, Key, Rounds, keys_count, script_of};
 
 /// Known scripts: one line with keys, with and without its line feed or a carriage return; the empty text; the third
 /// context alone; the keys of a context in two lines; two rounds, a comment with a byte that isn't ASCII
@@ -31,4 +34,43 @@ pub fn known_faults()
     ensures leading_zero { script_of (codes "01:<Q>") ≡ Err (record { line = 1; cause = Context }) }
     ensures key { script_of (codes "1:<Q>") ≡ Err (record { line = 1; cause = Key }) }
     ensures open_name { script_of (codes "16:hk4\n\n16:<E") ≡ Err (record { line = 3; cause = Key }) }
+{}
+
+/// The 65th round is refused.
+pub fn many_rounds()
+    ensures most { script_of (join_with_byte 10 (replicate 64 (codes "round"))) ≡ Ok (record { contexts = []; rounds = 64 }) }
+    ensures one_more { script_of (join_with_byte 10 (replicate 65 (codes "round"))) ≡ Err (record { line = 65; cause = Rounds }) }
+{}
+
+/// A script has at most 16 contexts, 65,536 keys and 64 rounds, and each key is one that a script can name.
+pub fn limits_of_a_script()
+    ensures contexts { (text : List ℕ) (script : Script) → script_of text ≡ Ok script → length script.contexts ≤ 16 }
+    ensures keys { (text : List ℕ) (script : Script) → script_of text ≡ Ok script → keys_count script.contexts ≤ 65_536 }
+    ensures rounds { (text : List ℕ) (script : Script) → script_of text ≡ Ok script → script.rounds ≤ 64 }
+    ensures in_range { (text : List ℕ) (script : Script) → script_of text ≡ Ok script → IsTrue (list_all (list_all is_key_stroke) script.contexts) }
+{}
+
+/// The keys of a context are those of its lines, joined in their order; there are as many contexts as the greatest
+/// number of a line of keys says, and as many rounds as lines that ask for one.
+pub fn scripts_by_their_lines()
+    ensures keys { (text : List ℕ) (script : Script) (place : ℕ) → script_of text ≡ Ok script → slice_index_or script.contexts place [] ≡ flat_map (keys_for (place + 1)) (lines_of text) }
+    ensures contexts { (text : List ℕ) (script : Script) → script_of text ≡ Ok script → length script.contexts ≡ fold (λ greatest line. max greatest (context_of line)) 0 (lines_of text) }
+    ensures rounds { (text : List ℕ) (script : Script) → script_of text ≡ Ok script → script.rounds ≡ count_by is_round (lines_of text) }
+{}
+
+/// A fault is told of line 0 exactly where the text is too long, else of one of its lines; and what stands behind
+/// that line doesn't matter.
+pub fn lines_of_faults()
+    ensures too_long { (text : List ℕ) → 1_048_576 < length text → script_of text ≡ Err (record { line = 0; cause = Size }) }
+    ensures whole { (text : List ℕ) (fault : Fault ScriptCause) → script_of text ≡ Err fault → fault.line ≡ 0 → fault.cause ≡ Size }
+    ensures size { (text : List ℕ) (fault : Fault ScriptCause) → script_of text ≡ Err fault → fault.cause ≡ Size → fault.line ≡ 0 }
+    ensures at_most { (text : List ℕ) (fault : Fault ScriptCause) → script_of text ≡ Err fault → fault.line ≤ length (lines_of text) }
+    ensures later { (text other : List ℕ) (fault : Fault ScriptCause) → script_of text ≡ Err fault → 0 < fault.line → length other ≤ 1_048_576 → take fault.line (lines_of other) ≡ take fault.line (lines_of text) → script_of other ≡ Err fault }
+{}
+
+/// Carriage returns at the ends of lines change nothing; nor do comments and empty lines, but for the number of a
+/// faulty line.
+pub fn what_changes_nothing()
+    ensures returns { (lines : List (List ℕ)) → IsTrue (list_all is_line lines) → map without_return lines ≡ lines → length (flat_map with_line_feed (map with_return lines)) ≤ 1_048_576 → script_of (flat_map with_line_feed (map with_return lines)) ≡ script_of (flat_map with_line_feed lines) }
+    ensures lines { (text other : List ℕ) → length text ≤ 1_048_576 → length other ≤ 1_048_576 → filter says_something (lines_of text) ≡ filter says_something (lines_of other) → result_ok (script_of text) ≡ result_ok (script_of other) }
 {}
