@@ -1,9 +1,8 @@
 -- What a key does to any layout.
 use Rattle.std.specs.Prelude.{◌≡◌, ℕ, Bool, true, false, List, [], ◌∷◌}
-use Rattle.std.proofs.Common.{refl, ap, sym, arith}
+use Rattle.std.proofs.Common.{refl, ap, arith}
 use Rattle.std.proofs.lemmas.Bool.Decides.{nat_tests}
 use Rattle.chew_spec_syllable.specs.Syllable.{Parts}
-use Rattle.chew_spec_layout.specs.Held.{is_held}
 use Rattle.chew_spec_layout.specs.Layout.{Kind, Standard, Eten, Hsu, Et26, Pinyin, Layout, ByParts, ByLetters, BySpelling, cleared, feed, holds, is_layout, new_layout}
 use Rattle.chew_spec_layout.specs.Letters.{Letters, letter_columns, fed_letters}
 use Rattle.chew_spec_layout.specs.Letters as letter
@@ -11,29 +10,10 @@ use Rattle.chew_spec_layout.specs.Spelling.{fed_spelling}
 use Rattle.chew_spec_layout.specs.Step.{Step, Kept, Whole, Refused, Erased, NotMine}
 use Rattle.chew_spec_layout.specs.Table.{Table, backspace, columns_of, fed, holds_something, nothing_held}
 use Rattle.chew_spec_layout.specs.Table as table
-use Rattle.chew_spec_layout.proofs.Fed as by_parts
-use Rattle.chew_spec_layout.proofs.Held as in_parts
-use Rattle.chew_spec_layout.proofs.Lettered as by_letters
-use Rattle.chew_spec_layout.proofs.Spelling as by_spelling
+use Rattle.chew_spec_layout.proofs.AnyLayout.{feed-cleared}
 use Rattle.chew_spec_editor.specs.Keys.{is_whole}
 
--- a key that can't stand here and one that isn't the layout's change nothing
-pub feed-refused : (layout : Layout) (key : ℕ) → (feed layout key).step ≡ Refused → (feed layout key).layout ≡ layout
-feed-refused (ByParts table held) key h = ap (ByParts table) (by_parts.kept_at_refused (columns_of table) held key h)
-feed-refused (ByLetters letters held) key h = ap (ByLetters letters) (by_letters.kept_at_refused (letter_columns letters) held key h)
-feed-refused (BySpelling held) key h = ap BySpelling (by_spelling.kept_at_refused held key h)
-
-pub feed-not_mine : (layout : Layout) (key : ℕ) → (feed layout key).step ≡ NotMine → (feed layout key).layout ≡ layout
-feed-not_mine (ByParts table held) key h = ap (ByParts table) (by_parts.kept_at_not_mine (columns_of table) held key h)
-feed-not_mine (ByLetters letters held) key h = ap (ByLetters letters) (by_letters.kept_at_not_mine (letter_columns letters) held key h)
-feed-not_mine (BySpelling held) key h = ap BySpelling (by_spelling.kept_at_not_mine held key h)
-
--- a whole syllable leaves nothing held
-pub feed-code : (layout : Layout) (key code : ℕ) → (feed layout key).step ≡ Whole code → (feed layout key).layout ≡ cleared layout
-feed-code (ByParts table held) key code h = ap (ByParts table) (by_parts.empties (columns_of table) held key code h)
-feed-code (ByLetters letters held) key code h = ap (ByLetters letters) (by_letters.empties (letter_columns letters) held key code h)
-feed-code (BySpelling held) key code h = ap BySpelling (by_spelling.empties held key code h)
-
+-- a step that is whole has a code
 whole-code : (step : Step) → is_whole step ≡ true → (code : ℕ) × (step ≡ Whole code)
 whole-code Kept h = absurd cc
 whole-code (Whole code) h = (code, refl)
@@ -41,26 +21,15 @@ whole-code Refused h = absurd cc
 whole-code Erased h = absurd cc
 whole-code NotMine h = absurd cc
 
+-- a whole syllable leaves nothing held
 pub feed-whole : (layout : Layout) (key : ℕ) → is_whole (feed layout key).step ≡ true → (feed layout key).layout ≡ cleared layout
-feed-whole layout key h = let whole = whole-code (feed layout key).step h in feed-code layout key whole.0 whole.1
+feed-whole layout key h = let whole = whole-code (feed layout key).step h in feed-cleared layout key whole.0 whole.1
 
--- what is held stays in the range of its kind
-pub feed-in_range : (layout : Layout) (key : ℕ) → is_layout layout ≡ true → is_layout (feed layout key).layout ≡ true
-feed-in_range (ByParts table held) key h = in_parts.stays table held key h
-feed-in_range (ByLetters letters held) key h = by_letters.stays (letter_columns letters) held key h
-feed-in_range (BySpelling held) key h = by_spelling.stays held key h
-
+-- what is left without what is held is in the range of its kind
 pub cleared-in_range : (layout : Layout) → is_layout (cleared layout) ≡ true
 cleared-in_range (ByParts table held) = refl
 cleared-in_range (ByLetters letters held) = refl
 cleared-in_range (BySpelling held) = refl
-
-pub new-in_range : (kind : Kind) → is_layout (new_layout kind) ≡ true
-new-in_range Standard = refl
-new-in_range Eten = refl
-new-in_range Hsu = refl
-new-in_range Et26 = refl
-new-in_range Pinyin = refl
 
 -- a layout keeps its kind
 pub cleared-feed : (layout : Layout) (key : ℕ) → cleared (feed layout key).layout ≡ cleared layout
@@ -79,23 +48,6 @@ cleared-new Eten = refl
 cleared-new Hsu = refl
 cleared-new Et26 = refl
 cleared-new Pinyin = refl
-
--- without what it holds it holds nothing
-pub holds-cleared : (layout : Layout) → holds (cleared layout) ≡ false
-holds-cleared (ByParts table held) = refl
-holds-cleared (ByLetters letters held) = refl
-holds-cleared (BySpelling held) = refl
-
--- and where it holds nothing, it is so already
-parts-empty : (held : Parts) → is_held held ≡ true → holds_something held ≡ false → held ≡ nothing_held
-parts-empty held h none = grind (arith, nat_tests)
-
-pub cleared-empty : (layout : Layout) → is_layout layout ≡ true → holds layout ≡ false → cleared layout ≡ layout
-cleared-empty (ByParts table held) h none = ap (ByParts table) (sym (parts-empty held h none))
-cleared-empty (ByLetters letters []) h none = refl
-cleared-empty (ByLetters letters (letter ∷ held)) h none = absurd (grind (arith, nat_tests))
-cleared-empty (BySpelling []) h none = refl
-cleared-empty (BySpelling (letter ∷ held)) h none = absurd (grind (arith, nat_tests))
 
 -- Backspace takes a part or a letter where something is held, and else isn't the layout's
 table-backspace : (table : Table) (held : Parts) → holds_something held ≡ true → (fed (columns_of table) held backspace).step ≡ Erased

@@ -12,7 +12,8 @@ use Rattle.chew_spec_text.specs.Line.{Line, Bell}
 use Rattle.chew_spec_editor.specs.Editor.{Settings, Editor}
 use Rattle.chew_spec_editor.specs.Keys.{is_built, is_whole, completes}
 use Rattle.chew_spec_editor.specs.Press.{Done, after_step, asking, bell, inserted, press, press_char, quiet, take_whole}
-use Rattle.chew_spec_editor.proofs.Feeding.{backspace-empty, backspace-erases, backspace-partial, feed-not_mine, feed-refused, feed-whole}
+use Rattle.chew_spec_layout.proofs.AnyLayout.{feed-not_mine, feed-refused}
+use Rattle.chew_spec_editor.proofs.Feeding.{backspace-empty, backspace-erases, backspace-partial, feed-whole}
 
 -- at a bell that is no whole syllable, where a refused key and one that isn't the layout's changed nothing
 step-bell : (system : List Row) (settings : Settings) (editor after : Editor) (step : Step) (layout : Layout) (line : Line)

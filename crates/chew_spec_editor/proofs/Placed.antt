@@ -16,7 +16,8 @@ use Rattle.chew_spec_text.specs.Line.{Line, Quiet}
 use Rattle.chew_spec_editor.specs.Editor.{Settings, Editor, empty_editor, line_of, shown_text}
 use Rattle.chew_spec_editor.specs.Press.{Pending, Done, Ask, after_step, bell, emptied, inserted, press, press_enter, press_esc, quiet}
 use Rattle.chew_spec_editor.specs.Sound.{IsPlaced, IsSound}
-use Rattle.chew_spec_editor.proofs.Feeding.{cleared-empty, cleared-feed, cleared-cleared, cleared-in_range, feed-in_range, new-in_range}
+use Rattle.chew_spec_layout.proofs.AnyLayout.{cleared-empty, feed-in_range, new-in_range}
+use Rattle.chew_spec_editor.proofs.Feeding.{cleared-feed, cleared-cleared, cleared-in_range}
 
 -- the layout may hold something else
 IsPlaced-layout : (system : List Row) (settings : Settings) (editor : Editor) (layout : Layout)

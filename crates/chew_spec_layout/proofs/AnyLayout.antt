@@ -56,7 +56,7 @@ cleared-new (ByLetters letter.Et26 held) = refl
 cleared-new (BySpelling held) = refl
 
 -- without what it holds it holds nothing
-holds-cleared : (layout : Layout) → holds (cleared layout) ≡ false
+pub holds-cleared : (layout : Layout) → holds (cleared layout) ≡ false
 holds-cleared (ByParts table held) = refl
 holds-cleared (ByLetters letters held) = refl
 holds-cleared (BySpelling held) = refl
@@ -65,7 +65,7 @@ holds-cleared (BySpelling held) = refl
 parts-empty : (held : Parts) → is_held held ≡ true → holds_something held ≡ false → held ≡ nothing_held
 parts-empty held h none = grind (arith, nat_tests)
 
-cleared-empty : (layout : Layout) → is_layout layout ≡ true → holds layout ≡ false → cleared layout ≡ layout
+pub cleared-empty : (layout : Layout) → is_layout layout ≡ true → holds layout ≡ false → cleared layout ≡ layout
 cleared-empty (ByParts table held) h none = ap (ByParts table) (sym (parts-empty held h none))
 cleared-empty (ByLetters letters []) h none = refl
 cleared-empty (ByLetters letters (letter ∷ held)) h none = absurd (grind (arith, nat_tests))
@@ -76,7 +76,7 @@ pub empty-new : (layout : Layout) → is_layout layout ≡ true → holds layout
 empty-new layout h none = sym (cleared-empty layout h none) ∙ cleared-new layout
 
 -- a whole syllable leaves nothing held
-feed-cleared : (layout : Layout) (key code : ℕ) → (feed layout key).step ≡ Whole code → (feed layout key).layout ≡ cleared layout
+pub feed-cleared : (layout : Layout) (key code : ℕ) → (feed layout key).step ≡ Whole code → (feed layout key).layout ≡ cleared layout
 feed-cleared (ByParts table held) key code h = ap (ByParts table) (by_parts.empties (columns_of table) held key code h)
 feed-cleared (ByLetters letters held) key code h = ap (ByLetters letters) (by_letters.empties (letter_columns letters) held key code h)
 feed-cleared (BySpelling held) key code h = ap BySpelling (by_spelling.empties held key code h)
