@@ -1,5 +1,5 @@
 -- What holds where lines are taken one after another.
-use Rattle.std.proofs.Common.{◌≡◌, ℕ, zero, suc, ◌+◌, ◌<◌, ◌≤◌, Bool, false, List, [], ◌∷◌, ◌++◌, length, take, Result, Ok, Err, refl, ap, ◌∙◌, subst, arith}
+use Rattle.std.proofs.Common.{◌≡◌, ℕ, zero, suc, ◌+◌, ◌<◌, ◌≤◌, Bool, false, List, [], ◌∷◌, ◌++◌, length, map, take, Result, Ok, Err, refl, ap, ◌∙◌, subst, arith}
 use Rattle.std.specs.List.{filter, fold}
 use Rattle.std.specs.Result.{result_ok}
 use Rattle.std.proofs.lemmas.Bool.{cond_both}
@@ -113,3 +113,20 @@ left_out counts taken none n m v (line ∷ lines) =
     (λ left. result_ok (each_line taken n v (line ∷ lines)) ≡ result_ok (each_line taken m v left))
     (λ _. alike n m _ _ (taken v line) (λ u. left_out counts taken none (suc n) (suc m) u lines))
     (λ e. ap (λ r. result_ok (go_on n (λ next. each_line taken (suc n) next lines) r)) (none v line e) ∙ left_out counts taken none (suc n) m v lines)
+
+-- what is made of a value next
+same_next : {V C W : Type 0} (n : ℕ) (next other : V → Result W (Fault C)) (r : Result V C) → ((u : V) → next u ≡ other u) → go_on n next r ≡ go_on n other r
+same_next n next other (Ok u) p = p u
+same_next n next other (Err cause) p = refl
+
+-- lines that have the same parts make the same
+pub by_parts : {V C X : Type 0} (parts : List ℕ → X) (taken : V → X → Result V C) (n : ℕ) (v : V) (lines other : List (List ℕ))
+    → map parts lines ≡ map parts other → each_line (λ u line. taken u (parts line)) n v lines ≡ each_line (λ u line. taken u (parts line)) n v other
+by_parts parts taken n v [] [] h = refl
+by_parts parts taken n v [] (first ∷ rest) h = absurd cc
+by_parts parts taken n v (line ∷ lines) [] h = absurd cc
+by_parts parts taken n v (line ∷ lines) (first ∷ rest) h =
+    let one : parts line ≡ parts first = cc in
+    let more : map parts lines ≡ map parts rest = cc in
+    same_next n _ _ (taken v (parts line)) (λ u. by_parts parts taken (suc n) u lines rest more)
+    ∙ ap (λ x. go_on n (λ next. each_line (λ u l. taken u (parts l)) (suc n) next rest) (taken v x)) one

@@ -1,3 +1,5 @@
+pub mod Clean
+pub mod Comments
 pub mod Contexts
 pub mod EachLine
 pub mod Found
@@ -5,4 +7,7 @@ pub mod KeyRange
 pub mod KeyText
 pub mod Limited
 pub mod Lines
+pub mod Printing
+pub mod Rows
 pub mod Script
+pub mod Short

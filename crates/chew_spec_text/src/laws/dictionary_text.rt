@@ -1,10 +1,13 @@
 //! Laws and known values of the text of a dictionary.
 
-ghost use Rattle.std.specs.Prelude.{◌≡◌, [], ◌∷◌, ◌++◌, Ok, Err, flat_map, map, codes};
-ghost use Rattle.std.specs.List.{join_with_byte};
-ghost use Rattle.chew_spec_text.specs.DictionaryText.{dictionary_rows, Phrase, Frequency, Syllable, Lengths, Twice};
+ghost use Rattle.std.specs.Prelude.{◌≡◌, ℕ, ◌<◌, ◌≤◌, ◌&&◌, List, [], ◌∷◌, ◌++◌, length, take, filter, ◌==◌, nat_lt, Ok, Err, IsTrue, flat_map, map, codes};
+ghost use Rattle.std.specs.List.{join_with_byte, list_all};
+ghost use Rattle.std.specs.Result.{result_ok};
+ghost use Rattle.chew_spec_syllable.specs.Row.{Row, is_row, no_pair_twice};
+ghost use Rattle.chew_spec_text.specs.DictionaryText.{RowCause, Size, Phrase, Frequency, Syllable, Lengths, Twice, Rows, dictionary_rows, fields_of};
 ghost use Rattle.chew_spec_text.specs.Line.{with_line_feed};
-ghost use Rattle.chew_spec_text.specs.Lines.{with_return};
+ghost use Rattle.chew_spec_text.specs.Lines.{Fault, is_line, lines_of, with_return, without_return};
+ghost use Rattle.chew_spec_text.specs.RowText.{rows_text, without_time};
 ghost use Rattle.chew_spec_text.specs.Sample.{bytes_of, sample_lines, sample_rows, new_row};
 
 /// The five lines and their rows; the same with a comment before them, with carriage returns, with an empty line and
@@ -34,4 +37,38 @@ pub fn known_faults()
     ensures no_syllable { dictionary_rows (bytes_of "測 100") ≡ Err (record { line = 1; cause = Lengths }) }
     ensures twice { dictionary_rows (bytes_of "測 100 ㄘㄜˋ\n測 200 ㄘㄜˋ") ≡ Err (record { line = 2; cause = Twice }) }
     ensures two_returns { dictionary_rows (with_line_feed (with_return (with_return (bytes_of "測 100 ㄘㄜˋ")))) ≡ Err (record { line = 1; cause = Syllable }) }
+{}
+
+/// The rows of a text are rows that were never learnt, no pair stands twice, and they are at most 250,000.
+pub fn rows_of_a_text()
+    ensures rows { (text : List ℕ) (rows : List Row) → dictionary_rows text ≡ Ok rows → IsTrue (list_all (λ row. is_row row && (row.time == 0)) rows) }
+    ensures no_pair_twice { (text : List ℕ) (rows : List Row) → dictionary_rows text ≡ Ok rows → IsTrue (no_pair_twice rows) }
+    ensures few { (text : List ℕ) (rows : List Row) → dictionary_rows text ≡ Ok rows → length rows ≤ 250_000 }
+{}
+
+/// At most 250,000 rows with no pair twice, printed a line each, are no longer than 64 MiB and are read as themselves
+/// without their times; the 250,001st is refused.
+pub fn printed_rows()
+    ensures read { (rows : List Row) → IsTrue (list_all is_row rows) → IsTrue (no_pair_twice rows) → length rows ≤ 250_000 → dictionary_rows (rows_text rows) ≡ Ok (map without_time rows) }
+    ensures short { (rows : List Row) → IsTrue (list_all is_row rows) → length rows ≤ 250_000 → length (rows_text rows) ≤ 67_108_864 }
+    ensures one_more { (rows : List Row) (row : Row) → IsTrue (list_all is_row (rows ++ row ∷ [])) → IsTrue (no_pair_twice (rows ++ row ∷ [])) → length rows ≡ 250_000 → dictionary_rows (rows_text (rows ++ row ∷ [])) ≡ Err (record { line = 250_001; cause = Rows }) }
+{}
+
+/// A fault is told of line 0 exactly where the text is too long, else of one of its lines; and what stands behind
+/// that line doesn't matter.
+pub fn lines_of_faults()
+    ensures too_long { (text : List ℕ) → 67_108_864 < length text → dictionary_rows text ≡ Err (record { line = 0; cause = Size }) }
+    ensures whole { (text : List ℕ) (fault : Fault RowCause) → dictionary_rows text ≡ Err fault → fault.line ≡ 0 → fault.cause ≡ Size }
+    ensures size { (text : List ℕ) (fault : Fault RowCause) → dictionary_rows text ≡ Err fault → fault.cause ≡ Size → fault.line ≡ 0 }
+    ensures at_most { (text : List ℕ) (fault : Fault RowCause) → dictionary_rows text ≡ Err fault → fault.line ≤ length (lines_of text) }
+    ensures later { (text other : List ℕ) (fault : Fault RowCause) → dictionary_rows text ≡ Err fault → 0 < fault.line → length other ≤ 67_108_864 → take fault.line (lines_of other) ≡ take fault.line (lines_of text) → dictionary_rows other ≡ Err fault }
+{}
+
+/// Carriage returns at the ends of lines change nothing, nor does a comment behind a line: lines say what their fields
+/// say. Lines without fields change nothing but the number of a faulty line.
+pub fn what_changes_nothing()
+    ensures returns { (lines : List (List ℕ)) → IsTrue (list_all is_line lines) → map without_return lines ≡ lines → length (flat_map with_line_feed (map with_return lines)) ≤ 67_108_864 → dictionary_rows (flat_map with_line_feed (map with_return lines)) ≡ dictionary_rows (flat_map with_line_feed lines) }
+    ensures comment { (line comment : List ℕ) → fields_of (line ++ (35 ∷ comment)) ≡ fields_of line }
+    ensures fields { (text other : List ℕ) → length text ≤ 67_108_864 → length other ≤ 67_108_864 → map fields_of (lines_of text) ≡ map fields_of (lines_of other) → dictionary_rows text ≡ dictionary_rows other }
+    ensures lines { (text other : List ℕ) → length text ≤ 67_108_864 → length other ≤ 67_108_864 → filter (λ line. nat_lt 0 (length (fields_of line))) (lines_of text) ≡ filter (λ line. nat_lt 0 (length (fields_of line))) (lines_of other) → result_ok (dictionary_rows text) ≡ result_ok (dictionary_rows other) }
 {}
