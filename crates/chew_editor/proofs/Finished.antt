@@ -2,7 +2,7 @@
 use Rattle.std.specs.Prelude.{◌≡◌, ℕ, List, [], length, Some}
 use Rattle.std.proofs.Common.{refl, ap, subst, ◌∙◌}
 use Rattle.chew_spec_syllable.specs.Row.{Row}
-use Rattle.chew_spec_syllable.specs.Syllable.{Parts}
+use Rattle.chew_spec_layout.specs.Layout.{Layout}
 use Rattle.chew_spec_dictionary.specs.Call.{Call, Hit, Reply}
 use Rattle.chew_spec_phrasing.specs.Best.{best_of, best_pieces}
 use Rattle.chew_spec_phrasing.specs.Combined.{combined_hits}
@@ -25,22 +25,22 @@ CoverCells-best_of cells run rows pieces proper same best =
     record { whole = covers.0 ∙ ap length same; phrases = covers.1 }
 
 -- the editor then
-pub finish-editor : (system : List Row) (whole : ConfiguredPending) (replies : List Reply) (settings : Settings) (held : Parts) (cells : List ℕ) (before pieces : List Piece) (calls : List Call) (hits : List Hit)
-    → record { settings = settings; pending = record { editor = record { held = held; cells = cells; cursor = length cells; pieces = before }; calls = calls } } ≡ whole
+pub finish-editor : (system : List Row) (whole : ConfiguredPending) (replies : List Reply) (settings : Settings) (layout : Layout) (cells : List ℕ) (before pieces : List Piece) (calls : List Call) (hits : List Hit)
+    → record { settings = settings; pending = record { editor = record { layout = layout; cells = cells; cursor = length cells; pieces = before }; calls = calls } } ≡ whole
     → hits ≡ rows_in replies → pieces ≡ best_pieces (combined_hits system cells hits) [] [] (length cells)
-    → record { held = held; cells = cells; cursor = length cells; pieces = pieces } ≡ (finish system whole.pending replies).editor
+    → record { layout = layout; cells = cells; cursor = length cells; pieces = pieces } ≡ (finish system whole.pending replies).editor
 unfolding finish
-finish-editor system whole replies settings held cells before pieces calls hits is heard best =
-    let editor : (pieces : List Piece) → Editor = λ ps. record { held = held; cells = cells; cursor = length cells; pieces = ps } in
+finish-editor system whole replies settings layout cells before pieces calls hits is heard best =
+    let editor : (pieces : List Piece) → Editor = λ ps. record { layout = layout; cells = cells; cursor = length cells; pieces = ps } in
     subst (λ (w : ConfiguredPending). editor pieces ≡ (finish system w.pending replies).editor) is
     (subst (λ hs. editor pieces ≡ editor (best_pieces (combined_hits system cells hs) [] [] (length cells))) heard
     (subst (λ ps. editor pieces ≡ editor ps) best refl))
 
 -- and its line
-pub finish-line : (system : List Row) (whole : ConfiguredPending) (replies : List Reply) (held : Parts) (cells : List ℕ) (pieces : List Piece) (line : Line)
-    → record { held = held; cells = cells; cursor = length cells; pieces = pieces } ≡ (finish system whole.pending replies).editor
-    → CoverCells (length cells) pieces → line ≡ line_at_end held pieces [] Quiet → line ≡ (finish system whole.pending replies).line
+pub finish-line : (system : List Row) (whole : ConfiguredPending) (replies : List Reply) (layout : Layout) (cells : List ℕ) (pieces : List Piece) (line : Line)
+    → record { layout = layout; cells = cells; cursor = length cells; pieces = pieces } ≡ (finish system whole.pending replies).editor
+    → CoverCells (length cells) pieces → line ≡ line_at_end layout pieces [] Quiet → line ≡ (finish system whole.pending replies).line
 unfolding finish
-finish-line system whole replies held cells pieces line is cover shown =
-    let editor : Editor = record { held = held; cells = cells; cursor = length cells; pieces = pieces } in
+finish-line system whole replies layout cells pieces line is cover shown =
+    let editor : Editor = record { layout = layout; cells = cells; cursor = length cells; pieces = pieces } in
     shown ∙ (line_of-at_end editor [] Quiet cover refl ∙ ap (λ e. line_of e [] Quiet) is)

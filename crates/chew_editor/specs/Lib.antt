@@ -1,5 +1,3 @@
 pub mod Kept
-pub mod Keys
-pub mod Notes
 pub mod Pressed
 pub mod Shown

@@ -7,12 +7,11 @@ ghost use Rattle.chew_plain.specs.Call.{reply_of};
 ghost use Rattle.chew_editor.specs.Kept.{CoverCells, most_cells};
 
 use crate::editor::Editor;
-use crate::line::{Line, Note};
 use crate::pending::Pending;
 use crate::shown::line_at_end;
-use crate::text::Text;
 use chew_phrasing::{Piece, best, combine};
 use chew_plain::{Hit, Lexicon, Reply};
+use chew_script::{Line, Note, Text};
 use chew_syllable::{NoMemory, Run, Syllable};
 use std::alloc::Global;
 

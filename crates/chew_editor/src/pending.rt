@@ -3,7 +3,7 @@ ghost use Rattle.chew_plain.specs.Call.{call_of};
 
 use crate::settings::Settings;
 use arrayvec::ArrayVec;
-use chew_layout_table::Direct;
+use chew_layouts::Layout;
 use chew_phrasing::Piece;
 use chew_plain::Call;
 use chew_syllable::Syllable;
@@ -13,16 +13,16 @@ use std::marker::Model;
 #[derive(Drop)]
 pub struct Pending {
     pub(crate) settings: Settings,
-    pub(crate) layout: Direct,
+    pub(crate) layout: Layout,
     pub(crate) cells: ArrayVec<Syllable, 39>,
     pub(crate) pieces: Vec<Piece>,
     pub(crate) calls: Vec<Call>,
 }
 
 impl Model for Pending {
-    ghost use Rattle.std.specs.Prelude.{◌≡◌, ◌≤◌, ◌<◌, length, map};
-    ghost use Rattle.chew_spec_layout.specs.Table.{Standard};
+    ghost use Rattle.std.specs.Prelude.{◌≤◌, ◌<◌, length, map};
     ghost use Rattle.chew_spec_editor.specs.Press.{ConfiguredPending};
+    ghost use Rattle.chew_layouts.specs.Layouts.{layout_of};
     ghost use Rattle.chew_plain.specs.Call.{call_of};
     ghost use Rattle.chew_editor.specs.Kept.{most_cells};
 
@@ -31,13 +31,12 @@ impl Model for Pending {
     ghost view = { λ p. record {
       settings = p.settings;
       pending = record {
-        editor = record { held = p.layout.held; cells = p.cells.items; cursor = length p.cells.items; pieces = p.pieces.items };
+        editor = record { layout = layout_of p.layout; cells = p.cells.items; cursor = length p.cells.items; pieces = p.pieces.items };
         calls = map call_of p.calls.items;
       };
     } };
 
-    ghost invariant = { λ p. (p.layout.table ≡ Standard) × (0 < length p.cells.items) × (length p.cells.items ≤ p.settings.buffer)
-        × (length p.cells.items ≤ most_cells) };
+    ghost invariant = { λ p. (0 < length p.cells.items) × (length p.cells.items ≤ p.settings.buffer) × (length p.cells.items ≤ most_cells) };
 }
 
 impl Pending {

@@ -1,11 +1,15 @@
 ghost use Rattle.std.specs.Prelude.{◌≡◌, ◌≤◌};
+ghost use Rattle.chew_spec_layout.specs.Layout as layout;
 ghost use Rattle.chew_editor.specs.Kept.{most_cells};
 
+use chew_layouts::Kind;
 use std::marker::Model;
 
 /// What the user may set.
-#[derive(Clone, Copy, Debug, PartialEq, Eq)]
+#[derive(Debug, Drop)]
 pub struct Settings {
+    /// The layout that reads the keys.
+    pub layout: Kind,
     /// The most cells that the pre-edit buffer holds, 1 to 10.
     pub buffer: u8,
 }
@@ -13,23 +17,35 @@ pub struct Settings {
 impl Model for Settings {
     ghost use Rattle.std.specs.Prelude.{◌≤◌};
     ghost use Rattle.chew_spec_editor.specs.Editor as spec;
+    ghost use Rattle.chew_layouts.specs.Layouts.{kind_of};
     ghost use Rattle.chew_editor.specs.Kept.{most_cells};
 
     ghost Value = { spec.Settings };
 
-    ghost view = { λ settings. record { buffer = settings.buffer } };
+    ghost view = { λ settings. record { layout = kind_of settings.layout; buffer = settings.buffer } };
 
     ghost invariant = { λ settings. (1 ≤ settings.buffer) × (settings.buffer ≤ most_cells) };
-
-    ghost inverse = { λ settings. record { buffer = settings.buffer } };
 }
 
 impl Settings {
-    /// The settings where nothing else is said: a buffer of ten cells.
+    /// The settings where nothing else is said: the default layout, and a buffer of ten cells.
     pub fn standard() -> Settings
-        ensures { result ≡ record { buffer = 10 } }
+        ensures { result ≡ record { layout = layout.Standard; buffer = 10 } }
     {
-        Settings { buffer: 10 }
+        Settings {
+            layout: Kind::Standard,
+            buffer: 10,
+        }
+    }
+
+    /// The same settings once more.
+    pub(crate) fn copy(&self) -> Settings
+        ensures { result ≡ self.now }
+    {
+        Settings {
+            layout: self.layout,
+            buffer: self.buffer,
+        }
     }
 
     /// The most cells that the pre-edit buffer holds.

@@ -1,13 +1,12 @@
 ghost use Rattle.std.specs.Prelude.{◌≡◌, ◌≤◌, IfOk, chars, false, length, string_bytes};
 ghost use Rattle.unicode_width.specs.Width.{str_width};
-ghost use Rattle.chew_editor.specs.Kept.{CoverCells, most_cells};
-ghost use Rattle.chew_editor.specs.Notes.{note_of};
+ghost use Rattle.chew_layouts.specs.Layouts.{layout_of};
+ghost use Rattle.chew_script.specs.Notes.{note_of};
 ghost use Rattle.chew_editor.specs.Shown.{line_at_end, text_of_pieces};
 
-use crate::line::{Line, Note};
-use crate::text::Text;
-use chew_layout_table::Direct;
+use chew_layouts::Layout;
 use chew_phrasing::Piece;
+use chew_script::{Line, Note, Text};
 use chew_syllable::NoMemory;
 use std::alloc::Global;
 use unicode_width::UnicodeWidthStr;
@@ -34,13 +33,13 @@ fn column_of(text: &str) -> u32
 /// The line that shows pieces of no more than 40 bytes and the layout, with the cursor behind the pieces.
 pub(crate) fn line_at_end(
     alloc: Global,
-    layout: &Direct,
+    layout: &Layout,
     pieces: &[Piece],
     commit: Text,
     note: Note,
 ) -> Result<Line, NoMemory>
     requires { length (text_of_pieces pieces.now) ≤ 40 }
-    ensures { IfOk result (λ line. line ≡ line_at_end layout.now.held pieces.now commit (note_of note)) }
+    ensures { IfOk result (λ line. line ≡ line_at_end (layout_of layout.now) pieces.now commit (note_of note)) }
 {
     let preedit = shown_text(alloc, pieces)?;
     let column = column_of(preedit.as_str());

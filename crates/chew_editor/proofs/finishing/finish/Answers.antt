@@ -7,6 +7,7 @@ use Rattle.chew_spec_text.specs.Line.{Quiet}
 use Rattle.chew_spec_dictionary.specs.System.{has_single}
 use Rattle.chew_spec_editor.specs.Finish.{rows_in}
 use Rattle.chew_spec_editor.specs.Press.{ConfiguredPending}
+use Rattle.chew_layouts.specs.Layouts.{layout_of}
 use Rattle.chew_plain.specs.Call.{call_of, reply_of}
 use Rattle.chew_editor.specs.Kept.{CoverCells}
 use Rattle.chew_editor.specs.Shown.{line_at_end}
@@ -21,9 +22,8 @@ line_at_end-requires g c =
 
 pub invariant_of-editor : goal.invariant_of-editor
 invariant_of-editor g c = (
-  c.pending.invariant.0,
+  c.pending.invariant.1,
   c.pending.invariant.2,
-  c.pending.invariant.3,
   subst (λ cells. CoverCells (length cells) c.in_ok-pieces.pieces.items) c.as_slice.ensures.value c.in_ok-pieces.ensures.cover,
 )
 
@@ -31,7 +31,7 @@ pub returns-clause-editor : goal.returns-clause-editor
 returns-clause-editor g c =
     let system = g.L.Lexicon.rows c.args.system.now in
     let inside = c.pending.inside in
-    finish-editor system c.args.pending (map reply_of c.args.replies.items) inside.settings inside.layout.held inside.cells.items inside.pieces.items
+    finish-editor system c.args.pending (map reply_of c.args.replies.items) inside.settings (layout_of inside.layout) inside.cells.items inside.pieces.items
     c.in_ok-pieces.pieces.items (map call_of inside.calls.items) c.hits_in.result.now c.pending.view_is
     (c.hits_in.ensures ∙ ap (λ replies. rows_in (map reply_of replies)) c.as_slice-2.ensures.value)
     (subst (λ cells. c.in_ok-pieces.pieces.items ≡ best_pieces (combined_hits system cells c.hits_in.result.now) [] [] (length cells)) c.as_slice.ensures.value c.in_ok-pieces.ensures.best)
@@ -39,10 +39,10 @@ returns-clause-editor g c =
 pub returns-clause-line : goal.returns-clause-line
 returns-clause-line g c =
     let inside = c.pending.inside in
-    finish-line (g.L.Lexicon.rows c.args.system.now) c.args.pending (map reply_of c.args.replies.items) inside.layout.held inside.cells.items
+    finish-line (g.L.Lexicon.rows c.args.system.now) c.args.pending (map reply_of c.args.replies.items) (layout_of inside.layout) inside.cells.items
     c.in_ok-pieces.pieces.items c.in_ok-line.line (returns-clause-editor g c)
     (subst (λ cells. CoverCells (length cells) c.in_ok-pieces.pieces.items) c.as_slice.ensures.value c.in_ok-pieces.ensures.cover)
-    (c.in_ok-line.ensures ∙ ap₂ (λ pieces commit. line_at_end inside.layout.held pieces commit Quiet) c.as_slice-3.ensures.value c.new.ensures)
+    (c.in_ok-line.ensures ∙ ap₂ (λ pieces commit. line_at_end (layout_of inside.layout) pieces commit Quiet) c.as_slice-3.ensures.value c.new.ensures)
 
 pub returns-clause-singles : goal.returns-clause-singles
 returns-clause-singles g c =

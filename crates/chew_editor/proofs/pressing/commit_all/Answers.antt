@@ -1,16 +1,10 @@
--- The new editor is the empty one.
-use Rattle.std.specs.Prelude.{◌≡◌, []}
-use Rattle.std.proofs.Common.{ap, ap₂, ◌∙◌}
-use Rattle.chew_spec_layout.specs.Table.{nothing_held}
+-- The editor without its cells and pieces, and its line.
 use Rattle.chew_spec_text.specs.Line.{Quiet}
-use Rattle.chew_spec_editor.specs.Editor.{Configured}
-use Rattle.chew_spec_editor.specs.Press.{Done}
-use Rattle.chew_editor.specs.Shown.{line_at_end}
-use Rattle.chew_editor.proofs.Lines.{line_of-empty}
+use Rattle.chew_layouts.specs.Layouts.{layout_of}
+use Rattle.chew_editor.proofs.Lines.{Done-emptied}
 use Rattle.chew_editor.proofs.pressing.commit_all.Goals as goal
 
 pub returns-in-Ok-clause-ok : goal.returns-in-Ok-clause-ok
 returns-in-Ok-clause-ok c =
-    let held : c.emptied.inside.layout.held ≡ nothing_held = ap (λ (e : Configured). e.editor.held) (c.emptied.view_is ∙ c.new-emptied.ensures) in
-    ap₂ Done (ap (λ (e : Configured). e.editor) c.new-emptied.ensures)
-    (c.in-Ok.ensures ∙ (ap (λ h. line_at_end h [] c.args.commit Quiet) held ∙ line_of-empty c.args.commit Quiet))
+    Done-emptied c.args.editor c.editor.inside.settings (layout_of c.editor.inside.layout) c.editor.inside.cells.items c.new.result.items
+    c.editor.inside.pieces.items c.new-in-Ok.result.items c.args.commit Quiet c.in-Ok.line c.editor.view_is c.new.ensures c.new-in-Ok.ensures.items c.in-Ok.ensures
