@@ -1,0 +1,5 @@
+//! Pinyin: a syllable is spelled by letters, and ended by the digit of its tone or by Space. No call takes memory.
+#![tactic(auto)]
+
+mod lookup;
+mod tables;
