@@ -1,5 +1,5 @@
 -- What is found in lists of spellings.
-use Rattle.std.proofs.Common.{◌≡◌, ◌≢◌, ℕ, suc, ◌+◌, ◌<◌, length, drop, get_or, sym, flat_map, add-one, drop-cons, arith, List, [], ◌∷◌, ◌++◌, Option, Some, None, refl, ap, ◌∙◌, map, cond, Bool, true, false, append_assoc}
+use Rattle.std.proofs.Common.{◌≡◌, ◌≢◌, ℕ, ◌+◌, ◌<◌, length, drop, get_or, sym, flat_map, add-one, drop-cons, List, [], ◌∷◌, ◌++◌, Option, Some, None, refl, ap, ◌∙◌, map, cond, true, false}
 use Rattle.std.specs.Prelude.{bytes_eq}
 use Rattle.std.proofs.lemmas.Bool.{cond_both, eq-eqb}
 use Rattle.std.proofs.lemmas.Slice.Eq.{bytes_eq-Decides}

@@ -2,4 +2,10 @@
 #![tactic(auto)]
 
 mod lookup;
+mod pinyin;
 mod tables;
+#[cfg(test)]
+mod tests;
+mod turn;
+
+pub use pinyin::Pinyin;

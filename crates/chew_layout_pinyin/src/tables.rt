@@ -9,6 +9,7 @@ pub(crate) type Spelled = (&'static [u8], &'static str);
 #[derive(Clone, Copy)]
 pub(crate) struct Row {
     pub(crate) initials: &'static [Spelled],
+    /// The endings, group by group.
     pub(crate) endings: &'static [&'static [Spelled]],
 }
 
@@ -97,11 +98,7 @@ const ENDINGS_U: [Spelled; 9] = [
 ];
 
 /// Endings in ㄩ behind ㄋ and ㄌ, which have ㄨ too.
-const ENDINGS_V: [Spelled; 3] = [
-    (b"v", "ㄩ"),
-    (b"ve", "ㄩㄝ"),
-    (b"ue", "ㄩㄝ"),
-];
+const ENDINGS_V: [Spelled; 3] = [(b"v", "ㄩ"), (b"ve", "ㄩㄝ"), (b"ue", "ㄩㄝ")];
 
 /// Endings in ㄩ behind ㄐ, ㄑ and ㄒ, which have no ㄨ.
 const ENDINGS_YU: [Spelled; 5] = [
@@ -129,17 +126,10 @@ const PLAIN_INITIALS: [Spelled; 9] = [
 ];
 
 /// The initials that take ㄩ too.
-const N_INITIALS: [Spelled; 2] = [
-    (b"n", "ㄋ"),
-    (b"l", "ㄌ"),
-];
+const N_INITIALS: [Spelled; 2] = [(b"n", "ㄋ"), (b"l", "ㄌ")];
 
 /// The initials before ㄧ and ㄩ alone.
-const PALATAL_INITIALS: [Spelled; 3] = [
-    (b"j", "ㄐ"),
-    (b"q", "ㄑ"),
-    (b"x", "ㄒ"),
-];
+const PALATAL_INITIALS: [Spelled; 3] = [(b"j", "ㄐ"), (b"q", "ㄑ"), (b"x", "ㄒ")];
 
 /// The initials that are syllables by themselves.
 const BARE_INITIALS: [Spelled; 7] = [

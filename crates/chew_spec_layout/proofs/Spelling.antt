@@ -79,10 +79,10 @@ outcomes P held key kept whole refused not_mine gone =
     (λ f. cond_both (is_tone_key key) _ _ P (λ g. of_spelling P held (tone_of key) (spelling_of held) (is_spelled held) whole refused)
     (λ g. cond_both (key == backspace) _ _ P (λ h. gone) (λ h. not_mine))))
 
--- the parts of a spelling with a tone are a syllable's
-pub toned : (held : List ℕ) (s : Spelling) (tone : ℕ) → IsSpelled held s → tone ≤ 4 → is_syllable (record (front_parts s.marks) { tone = tone }) ≡ true
-toned held s tone h t =
-    let r : InRange (front_parts s.marks) = in_range (front_parts s.marks) h.syllable in
+-- the parts of a syllable with another tone are a syllable's
+pub toned : (p : Parts) (tone : ℕ) → is_syllable p ≡ true → tone ≤ 4 → is_syllable (record p { tone = tone }) ≡ true
+toned p tone h t =
+    let r : InRange p = in_range p h in
     and_from _ _ (le-leb _ _ r.initial) (and_from _ _ (le-leb _ _ r.medial) (and_from _ _ (le-leb _ _ r.final) (and_from _ _ (le-leb _ _ t) (lt-ltb _ _ r.some))))
 
 -- and their text is the marks and the tone's mark
@@ -109,7 +109,7 @@ whole_is_code held key code =
     (λ e n h. absurd cc)
     (λ s h is e.
     let p : Parts = record (front_parts s.marks) { tone = tone_of key } in
-    ap is_code (sym (same_code (code_of p) code e)) ∙ code_is p (toned held s (tone_of key) h (tone_le key)))
+    ap is_code (sym (same_code (code_of p) code e)) ∙ code_is p (toned (front_parts s.marks) (tone_of key) h.syllable (tone_le key)))
     (λ h. absurd cc) (λ h. absurd cc) (λ h. absurd cc)
 
 -- the text of what is whole is the spelling's marks and the tone's mark
@@ -122,7 +122,7 @@ whole_text held key code spelling given =
     let p : Parts = record (front_parts s.marks) { tone = tone_of key } in
     let marks : text_of (front_parts s.marks) ≡ spelling.marks = h.text ∙ ap (λ (s : Spelling). s.marks) (same_spelling s spelling (sym is ∙ given)) in
     ap (λ (n : ℕ). text_of (parts_of n)) (sym (same_code (code_of p) code e))
-    ∙ (code_text (front_parts s.marks) (tone_of key) h.no_tone (toned held s (tone_of key) h (tone_le key))
+    ∙ (code_text (front_parts s.marks) (tone_of key) h.no_tone (toned (front_parts s.marks) (tone_of key) h.syllable (tone_le key))
     ∙ ap (λ (m : List ℕ). m ++ mark_text tone_marks (tone_of key)) marks))
     (λ h. absurd cc) (λ h. absurd cc) (λ h. absurd cc)
 
@@ -148,12 +148,21 @@ kept_at_not_mine held key =
 letters_front : (n : ℕ) (held : List ℕ) → list_all is_pinyin_letter held ≡ true → list_all is_pinyin_letter (take n held) ≡ true
 letters_front n held h = list_all-from_AllPass is_pinyin_letter _ (All-take (λ x. is_pinyin_letter x ≡ true) n held (AllPass-from_list_all is_pinyin_letter held h))
 
+-- what is held, and one letter more
+pub one_more : (held : List ℕ) (key : ℕ) → is_held_spelling held ≡ true → is_pinyin_letter key ≡ true → length held ≤ 5 → is_held_spelling (held ++ key ∷ []) ≡ true
+one_more held key h e n =
+    let both = and_parts (nat_le (length held) 6) (list_all is_pinyin_letter held) h in
+    and_from _ _ (le-leb _ _ (simp length-append (omega arith))) (list_all-append is_pinyin_letter held (key ∷ []) ∙ and_from _ _ both.1 (and_from _ _ e refl))
+
+-- and without its last letter
+pub one_less : (held : List ℕ) → is_held_spelling held ≡ true → is_held_spelling (take (length held - 1) held) ≡ true
+one_less held h =
+    let both = and_parts (nat_le (length held) 6) (list_all is_pinyin_letter held) h in
+    let short : length held ≤ 6 = leb-true _ _ both.0 in
+    and_from _ _ (le-leb _ _ (let n = length-take (length held - 1) held in omega arith)) (letters_front _ held both.1)
+
 -- what is held stays letters, and at most six
 pub stays : (held : List ℕ) (key : ℕ) → is_held_spelling held ≡ true → is_held_spelling (fed_spelling held key).held ≡ true
 stays held key h =
-    let both = and_parts (nat_le (length held) 6) (list_all is_pinyin_letter held) h in
-    let short : length held ≤ 6 = leb-true _ _ both.0 in
     outcomes (λ f. is_held_spelling f.held ≡ true) held key
-    (λ e n. and_from _ _ (le-leb _ _ (simp length-append (omega arith))) (list_all-append is_pinyin_letter held (key ∷ []) ∙ and_from _ _ both.1 (and_from _ _ e refl)))
-    (λ s g is. refl) h h
-    (and_from _ _ (le-leb _ _ (let n = length-take (length held - 1) held in omega arith)) (letters_front _ held both.1))
+    (λ e n. one_more held key h e n) (λ s g is. refl) h h (one_less held h)

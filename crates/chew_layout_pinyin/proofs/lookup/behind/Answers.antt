@@ -1,5 +1,5 @@
 -- By what stands behind the initial's letters.
-use Rattle.std.proofs.Common.{Some, None, sym, ◌≡◌, ◌++◌}
+use Rattle.std.proofs.Common.{Some, None, sym}
 use Rattle.std.proofs.lemmas.Bool.Decides.{Decides-eqb}
 use Rattle.std.proofs.lemmas.Slice.Eq.{strip_prefix_is}
 use Rattle.chew_layout_pinyin.specs.Tables.{groups_of, spelled_of}

@@ -1,7 +1,6 @@
 -- Nothing was found so far.
-use Rattle.std.proofs.Common.{◌≡◌, map, flat_map, drop}
-use Rattle.chew_spec_layout.specs.Spelling.{joined}
-use Rattle.chew_layout_pinyin.specs.Tables.{row_of, groups_of, spelled_of, marks_in}
+use Rattle.std.proofs.Common.{◌≡◌, drop}
+use Rattle.chew_layout_pinyin.specs.Tables.{row_of, marks_in}
 use Rattle.chew_layout_pinyin.proofs.lookup.in_row.Given as goal
 
 abbrev pub invariant-loop-initial : goal.invariant-loop-initial

@@ -1,6 +1,5 @@
 -- Nothing was found so far.
-use Rattle.std.proofs.Common.{◌≡◌, map, flat_map, drop}
-use Rattle.chew_spec_layout.specs.Spelling.{combined}
+use Rattle.std.proofs.Common.{◌≡◌, map, drop}
 use Rattle.chew_layout_pinyin.specs.Tables.{spelled_of, marks_in}
 use Rattle.chew_layout_pinyin.proofs.lookup.marks_in.Given as goal
 
