@@ -193,3 +193,9 @@ in_columns Et26 = record { initials = omega arith; medials = omega arith; finals
 -- what is whole is a syllable
 pub whole_is_code : (letters : Letters) (held : List ℕ) (key code : ℕ) → (fed_letters (letter_columns letters) held key).step ≡ Whole code → is_code code ≡ true
 whole_is_code letters held key = (sound (letter_columns letters) held key).whole (in_columns letters)
+
+-- what the held letters are read as is a syllable with each tone
+pub read_syllable : (letters : Letters) (held : List ℕ) (tone : ℕ) (p : Parts) → reading_of (letter_columns letters) held ≡ Some p → tone ≤ 4 → is_syllable (record p { tone = tone }) ≡ true
+unfolding reading_of
+read_syllable letters held tone p e t =
+    let q = found_reading (letter_columns letters) (in_columns letters) (filter (fits (letter_columns letters)) (takings held)) p e in reading_whole p tone q.0 t q.1
