@@ -9,8 +9,8 @@ use Rattle.chew_spec_dictionary.specs.Look.{Interval, codes_at, hit_of}
 use Rattle.chew_spec_dictionary.specs.Order.{in_order}
 use Rattle.chew_spec_dictionary.specs.System.{rows_of}
 use Rattle.chew_spec_phrasing.specs.Combined.{combined, combined_hits, found_rows, is_free_of, is_hit_at, shown_hit_cmp, unsorted_hits}
-use Rattle.chew_spec_phrasing.proofs.CombinedHits.{shown_hit_cmp_total}
-use Rattle.chew_spec_phrasing.proofs.InOrder.{IsPermutation-in_order, IsSorted-in_order}
+use Rattle.chew_spec_dictionary.proofs.Order.{order_permutes, order_sorted}
+use Rattle.chew_spec_dictionary.proofs.Rows.{shown_hit_total}
 use Rattle.chew_spec_phrasing.proofs.Intervals.{flat_map-flat_map, flat_map-map}
 use Rattle.chew_spec_phrasing.proofs.SortedHits.{hits_from_sorted}
 use Rattle.chew_phrasing.specs.Combine.{combined_at, combined_from, interval}
@@ -62,7 +62,7 @@ combined_from_sorted system run key user at own free joined sorted codes mine th
     both ∙ ap (λ list. own ++ list) (theirs ∙ ap (λ k. map (hit_of at) (filter (is_free_of own) (rows_of system k))) codes)
     ∙ ap (λ list. list ++ map (hit_of at) (filter (is_free_of list) (rows_of system (codes_at run at)))) mine in
     order ∙ ap (in_order shown_hit_cmp) same
-    ∙ hits_from_sorted system run user at (in_order shown_hit_cmp all) (IsPermutation-in_order shown_hit_cmp all) (IsSorted-in_order shown_hit_cmp shown_hit_cmp_total all)
+    ∙ hits_from_sorted system run user at (in_order shown_hit_cmp all) (order_permutes shown_hit_cmp all) (order_sorted shown_hit_cmp shown_hit_total all)
 
 -- the combined rows of a run are those of its starts
 pub all_combined : (system : List Row) (run : List ℕ) (user : List Hit) → flat_map (combined_from system run user) (range_with_len 0 (length run)) ≡ combined_hits system run user

@@ -30,7 +30,7 @@ module _ {X Y : Type 0} (f : X → List Y) where
       at (z ∷ zs) (suc k) l e c = Contains-append_right (f z) (flat_map f zs) y (at zs k (omega arith) e c)
 
 -- what stands in a list stands in what a function makes of it
-contained_map : {X Y : Type 0} (f : X → Y) (x : X) (xs : List X) (k : ℕ) → k < length xs → get_or xs k x ≡ x → Contains (map f xs) (f x)
+pub contained_map : {X Y : Type 0} (f : X → Y) (x : X) (xs : List X) (k : ℕ) → k < length xs → get_or xs k x ≡ x → Contains (map f xs) (f x)
 contained_map f x [] k l e = absurd (omega arith)
 contained_map f x (z ∷ zs) zero l e = (0, omega arith, ap f e)
 contained_map f x (z ∷ zs) (suc k) l e = let c = contained_map f x zs k (omega arith) e in (suc c.0, omega (arith, c.1), c.2)

@@ -97,7 +97,7 @@ module _ {X : Type 0} (cmp : X → X → Ordering) where
     sorted_tail x xs up k d z l = let at = up (suc k) d (omega arith) (omega arith) in rw add-one (rw add-one at at)
 
     -- a sorted list rises
-    rises_from : (xs : List X) → IsSorted cmp xs → Rises xs
+    pub rises_from : (xs : List X) → IsSorted cmp xs → Rises xs
     rises_from [] up = tt
     rises_from (x ∷ xs) up = (
       none_from x xs (λ k d l. sorted_far (λ y z. is_lt (cmp y z)) (ranks_by order (λ z. z)) (x ∷ xs) up 0 (suc k) d (omega arith) (omega arith)),
@@ -131,7 +131,7 @@ module _ {X : Type 0} (cmp : X → X → Ordering) where
     tie_of o Greater e f g = absurd (true≢false (sym (ap is_lt e) ∙ f))
 
     -- two lists that rise, have equal elements, and of whose elements only equal ones tie are equal
-    rising_alike : (Q : X → Type 0) → ((x y : X) → Q x → Q y → cmp x y ≡ Equal → x ≡ y) → (xs ys : List X) → Rises xs → Rises ys → All Q xs → All Q ys → ((f : X → ℕ) → sum_by f xs ≡ sum_by f ys) → xs ≡ ys
+    pub rising_alike : (Q : X → Type 0) → ((x y : X) → Q x → Q y → cmp x y ≡ Equal → x ≡ y) → (xs ys : List X) → Rises xs → Rises ys → All Q xs → All Q ys → ((f : X → ℕ) → sum_by f xs ≡ sum_by f ys) → xs ≡ ys
     rising_alike Q ties [] [] rx ry qx qy sums = refl
     rising_alike Q ties [] (y ∷ ys) rx ry qx qy sums = absurd (omega (arith, sums (λ _. 1), sum_by-cons (λ _. 1) y ys))
     rising_alike Q ties (x ∷ xs) [] rx ry qx qy sums = absurd (omega (arith, sums (λ _. 1), sum_by-cons (λ _. 1) x xs))

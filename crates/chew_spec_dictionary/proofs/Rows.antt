@@ -13,7 +13,8 @@ use Rattle.std.proofs.lemmas.Slice.Eq.{bytes_eq-Decides}
 use Rattle.chew_spec_syllable.specs.Row.{Row, image_cmp, is_pair_of, no_pair_twice}
 use Rattle.chew_spec_dictionary.specs.Order.{in_order}
 use Rattle.chew_spec_dictionary.specs.System.{row_of, rows_of, rows_under, is_under, phrase_cmp}
-use Rattle.chew_spec_dictionary.specs.Look.{shown_cmp}
+use Rattle.chew_spec_dictionary.specs.Call.{Hit}
+use Rattle.chew_spec_dictionary.specs.Look.{shown_cmp, shown_hit_cmp}
 use Rattle.chew_spec_dictionary.specs.Dictionary.{is_map}
 use Rattle.chew_spec_dictionary.proofs.ImageOrder.{of_pair, is_of_pair, apart, image_of_key}
 use Rattle.chew_spec_dictionary.proofs.Pairs.{found_first, found_later}
@@ -27,8 +28,12 @@ phrase_total = on_total (λ (row : Row). row.phrase) nat_list_cmp_total
 pub shown_total : IsTotalOrder shown_cmp
 shown_total = then_total (back_total (on_total (λ (row : Row). row.freq) nat_cmp_total)) phrase_total
 
+-- the order in which the hits of one interval are shown is total
+pub shown_hit_total : IsTotalOrder shown_hit_cmp
+shown_hit_total = then_total (back_total (on_total (λ (hit : Hit). hit.freq) nat_cmp_total)) (on_total (λ (hit : Hit). hit.phrase) nat_list_cmp_total)
+
 -- where two comparisons tie, the second does
-then_equal : (o p : Ordering) → ordering_then o p ≡ Equal → p ≡ Equal
+pub then_equal : (o p : Ordering) → ordering_then o p ≡ Equal → p ≡ Equal
 then_equal Less p e = absurd (true≢false (ap is_lt e))
 then_equal Equal p e = e
 then_equal Greater p e = absurd (true≢false (ap is_gt e))

@@ -1,9 +1,7 @@
 -- Combined rows: their order, which rows they are, and that the user's hide the system's.
 use Rattle.std.proofs.Common.{◌≡◌, ◌≢◌, ℕ, ◌<◌, Bool, true, false, not, cond, ◌||◌, List, [], ◌∷◌, ◌++◌, get_or, filter, All, AllPairs, Contains, IsSorted, bytes_eq, ◌⊎◌, inl, inr, ⊎_elim, sym, refl, ap, ◌∙◌, true≢false}
-use Rattle.std.specs.Cmp.{IsTotalOrder}
 use Rattle.std.specs.List.{list_any}
 use Rattle.std.proofs.lemmas.Bool.{and_from, and_parts, cases_order, not-true}
-use Rattle.std.proofs.lemmas.Cmp.{back_total, nat_cmp_total, nat_list_cmp_total, on_total, then_total}
 use Rattle.std.proofs.lemmas.List.{get_or_default}
 use Rattle.std.proofs.lemmas.List.Elements.{Contains-append_cases, Contains-append_left, Contains-append_right}
 use Rattle.std.proofs.lemmas.List.Folds.{list_any-append, list_any-from_Any}
@@ -12,13 +10,11 @@ use Rattle.std.proofs.lemmas.Slice.Eq.{bytes_eq-Decides}
 use Rattle.chew_spec_syllable.specs.Row.{Row, is_pair_of, no_pair_twice}
 use Rattle.chew_spec_dictionary.specs.Look.{shown_cmp}
 use Rattle.chew_spec_dictionary.specs.System.{is_under, rows_under}
+use Rattle.chew_spec_dictionary.proofs.Order.{order_sorted}
+use Rattle.chew_spec_dictionary.proofs.Rows.{shown_total, under_key}
 use Rattle.chew_spec_phrasing.specs.Combined.{combined, has_phrase}
-use Rattle.chew_spec_phrasing.proofs.InOrder.{AllPairs-append, AllPairs-in_order, AllPairs-nil, Contains-from_in_order, Contains-in_order, IsSorted-in_order, list_any-in_order}
+use Rattle.chew_spec_phrasing.proofs.InOrder.{AllPairs-append, AllPairs-in_order, AllPairs-nil, Contains-from_in_order, Contains-in_order, list_any-in_order}
 use Rattle.chew_spec_phrasing.proofs.Membership.{All-from_Contains, Contains-filter, Contains-from_filter}
-
--- the order in which phrases are shown is a total one
-pub shown_cmp_total : IsTotalOrder shown_cmp
-shown_cmp_total = then_total (on_total (λ (row : Row). row.freq) (back_total nat_cmp_total)) (on_total (λ (row : Row). row.phrase) nat_list_cmp_total)
 
 -- texts that are one pass the test, and no others
 pub bytes_eq_from_same : (text other : List ℕ) → text ≡ other → bytes_eq text other ≡ true
@@ -32,9 +28,7 @@ pub Contains-rows_under : (rows : List Row) (key : List ℕ) (row : Row) → Con
 Contains-rows_under rows key row h e = Contains-filter (is_under key) rows row h (bytes_eq_from_same row.key key e)
 
 pub Contains-from_rows_under : (rows : List Row) (key : List ℕ) (row : Row) → Contains (rows_under rows key) row → Contains rows row × (row.key ≡ key)
-Contains-from_rows_under rows key row h =
-    let kept = Contains-from_filter (is_under key) rows row h in
-    (kept.0, same_from_bytes_eq row.key key kept.1)
+Contains-from_rows_under = under_key
 
 -- a row's phrase is had where the row is there
 pub has_phrase-from_Contains : (rows : List Row) (row : Row) (phrase : List ℕ) → Contains rows row → row.phrase ≡ phrase → has_phrase rows phrase ≡ true
@@ -76,7 +70,7 @@ Contains-combined-cases system user key row h =
 -- they are in order
 pub IsSorted-combined : (system user : List Row) (key : List ℕ) → IsSorted shown_cmp (combined system user key)
 IsSorted-combined system user key =
-    IsSorted-in_order shown_cmp shown_cmp_total (rows_under user key ++ filter (λ row. not (has_phrase (rows_under user key) row.phrase)) (rows_under system key))
+    order_sorted shown_cmp shown_total (rows_under user key ++ filter (λ row. not (has_phrase (rows_under user key) row.phrase)) (rows_under system key))
 
 -- two rows of different phrases
 abbrev pub IsOtherPhrase : Row → Row → Type 0

@@ -1,7 +1,5 @@
 -- The combined rows of every interval, from what a look-up found, are those of the user's own rows.
 use Rattle.std.proofs.Common.{◌≡◌, ℕ, not, cond, ◌||◌, List, [], ◌∷◌, ◌++◌, length, map, filter, flat_map, bytes_eq, sym, refl, ap, ap₂, ◌∙◌}
-use Rattle.std.specs.Cmp.{IsTotalOrder}
-use Rattle.std.proofs.lemmas.Cmp.{back_total, nat_cmp_total, nat_list_cmp_total, on_total, then_total}
 use Rattle.std.proofs.lemmas.List.{map-append}
 use Rattle.std.proofs.lemmas.List.Elements.{filter_agree}
 use Rattle.chew_spec_syllable.specs.Row.{Row}
@@ -9,14 +7,12 @@ use Rattle.chew_spec_dictionary.specs.Call.{Hit}
 use Rattle.chew_spec_dictionary.specs.Look.{Interval, codes_at, hit_of, hits_of, intervals, shown_cmp}
 use Rattle.chew_spec_dictionary.specs.Order.{in_order}
 use Rattle.chew_spec_dictionary.specs.System.{rows_under}
+use Rattle.chew_spec_dictionary.proofs.Rows.{shown_hit_total}
+use Rattle.chew_spec_dictionary.proofs.Sorting.{in_order_map}
 use Rattle.chew_spec_phrasing.specs.Combined.{combined, combined_hits, found_rows, has_phrase, shown_hit_cmp}
 use Rattle.chew_spec_phrasing.proofs.Combined.{bytes_eq_from_same}
-use Rattle.chew_spec_phrasing.proofs.InOrder.{in_order-append, list_any-in_order, map-in_order}
+use Rattle.chew_spec_phrasing.proofs.InOrder.{in_order-append, list_any-in_order}
 use Rattle.chew_spec_phrasing.proofs.Intervals.{IsIn, IsIn-from_intervals, flat_map_alike, hits_at, map-map}
-
--- the order in which the hits of one interval are shown is a total one
-pub shown_hit_cmp_total : IsTotalOrder shown_hit_cmp
-shown_hit_cmp_total = then_total (on_total (λ (hit : Hit). hit.freq) (back_total nat_cmp_total)) (on_total (λ (hit : Hit). hit.phrase) nat_list_cmp_total)
 
 -- a row as a look-up tells it: under the key, with no time
 abbrev told : List ℕ → Row → Row
@@ -53,13 +49,13 @@ hits-combined at system user key =
     (ap (λ rows. has_phrase rows row.phrase) (under_told key (in_order shown_cmp mine))
     ∙ (phrases_told key row.phrase (in_order shown_cmp mine) ∙ list_any-in_order shown_cmp (λ r. bytes_eq r.phrase row.phrase) mine)) in
     let by_order : (rows : List Row) → map (hit_of at) (in_order shown_cmp rows) ≡ in_order shown_hit_cmp (map (hit_of at) rows) =
-    map-in_order (hit_of at) shown_cmp shown_hit_cmp (λ x y. refl) in
+    λ rows. sym (in_order_map (hit_of at) shown_cmp shown_hit_cmp (λ x y. refl) rows) in
     ap (λ rows. map (hit_of at) (in_order shown_cmp rows))
     (ap₂ (λ xs ys. xs ++ ys) (under_told key (in_order shown_cmp mine)) (filter_agree free_of_seen free same_phrases (rows_under system key)))
     ∙ (by_order (seen ++ theirs)
     ∙ (ap (in_order shown_hit_cmp) (map-append (hit_of at) seen theirs
     ∙ ap (λ xs. xs ++ map (hit_of at) theirs) (map-map (hit_of at) (told key) (in_order shown_cmp mine) ∙ by_order mine))
-    ∙ (in_order-append shown_hit_cmp shown_hit_cmp_total (map (hit_of at) mine) (map (hit_of at) theirs)
+    ∙ (in_order-append shown_hit_cmp shown_hit_total (map (hit_of at) mine) (map (hit_of at) theirs)
     ∙ (ap (in_order shown_hit_cmp) (sym (map-append (hit_of at) mine theirs))
     ∙ sym (by_order (mine ++ theirs))))))
 

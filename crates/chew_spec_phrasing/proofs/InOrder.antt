@@ -1,40 +1,24 @@
--- A list put in order has the same elements, is sorted, and may be put in order part by part.
-use Rattle.std.proofs.Common.{◌≡◌, suc, ◌+◌, Bool, true, false, cond, List, [], ◌∷◌, ◌++◌, map, All, AllPairs, Contains, IsPermutation, IsSorted, Ordering, Less, Equal, Greater, is_lt, sym, refl, ap, ◌∙◌, arith, true≢false}
-use Rattle.std.specs.Cmp.{IsTotalOrder, IsStrictWeakOrder}
+-- What is known of elements stays known of them in order, and a list may be put in order part by part.
+use Rattle.std.proofs.Common.{◌≡◌, suc, Bool, true, false, cond, List, [], ◌∷◌, ◌++◌, All, AllPairs, Contains, IsPermutation, Ordering, Less, Equal, Greater, is_lt, sym, refl, ap, ◌∙◌, arith, true≢false}
+use Rattle.std.specs.Cmp.{IsTotalOrder}
 use Rattle.std.specs.List.{list_any}
-use Rattle.std.proofs.lemmas.List.Elements.{All-append, All-cons, All-head, All-nil, All-tail, All-weaker}
+use Rattle.std.proofs.lemmas.List.Elements.{All-append, All-cons, All-head, All-tail}
 use Rattle.std.proofs.lemmas.List.Kept.{AllPairs-cons}
 use Rattle.std.proofs.lemmas.List.MinMax.{ranks_by}
-use Rattle.std.proofs.lemmas.List.Sorted.{All-permutation, Contains-permutation, IsPermutation-cons, IsPermutation-middle, IsPermutation-refl, IsPermutation-sym, IsPermutation-trans, list_any-IsPermutation}
+use Rattle.std.proofs.lemmas.List.Sorted.{All-permutation, Contains-permutation, IsPermutation-sym, list_any-IsPermutation}
 use Rattle.chew_spec_dictionary.specs.Order.{in_order, put}
-
-put_permutes : {X : Type 0} (x y : X) (ys later : List X) (b : Bool) → IsPermutation (x ∷ ys) later → IsPermutation (x ∷ (y ∷ ys)) (cond b (y ∷ later) (x ∷ (y ∷ ys)))
-put_permutes x y ys later true h =
-    IsPermutation-trans (x ∷ (y ∷ ys)) (y ∷ (x ∷ ys)) (y ∷ later) (IsPermutation-middle (x ∷ []) y ys) (IsPermutation-cons y (x ∷ ys) later h)
-put_permutes x y ys later false h = IsPermutation-refl (x ∷ (y ∷ ys))
-
--- an element put at its place is one more
-pub IsPermutation-put : {X : Type 0} (cmp : X → X → Ordering) (x : X) (xs : List X) → IsPermutation (x ∷ xs) (put cmp x xs)
-IsPermutation-put cmp x [] = IsPermutation-refl (x ∷ [])
-IsPermutation-put cmp x (y ∷ ys) = put_permutes x y ys (put cmp x ys) (is_lt (cmp y x)) (IsPermutation-put cmp x ys)
-
--- a list in order has the same elements
-pub IsPermutation-in_order : {X : Type 0} (cmp : X → X → Ordering) (xs : List X) → IsPermutation xs (in_order cmp xs)
-IsPermutation-in_order cmp [] = IsPermutation-refl []
-IsPermutation-in_order cmp (x ∷ xs) =
-    IsPermutation-trans (x ∷ xs) (x ∷ in_order cmp xs) (put cmp x (in_order cmp xs))
-    (IsPermutation-cons x xs (in_order cmp xs) (IsPermutation-in_order cmp xs)) (IsPermutation-put cmp x (in_order cmp xs))
+use Rattle.chew_spec_dictionary.proofs.Order.{order_permutes, put_permutes}
 
 pub Contains-in_order : {X : Type 0} (cmp : X → X → Ordering) (xs : List X) (x : X) → Contains xs x → Contains (in_order cmp xs) x
-Contains-in_order cmp xs x h = Contains-permutation xs (in_order cmp xs) x (IsPermutation-in_order cmp xs) h
+Contains-in_order cmp xs x h = Contains-permutation xs (in_order cmp xs) x (order_permutes cmp xs) h
 
 pub Contains-from_in_order : {X : Type 0} (cmp : X → X → Ordering) (xs : List X) (x : X) → Contains (in_order cmp xs) x → Contains xs x
 Contains-from_in_order cmp xs x h =
-    Contains-permutation (in_order cmp xs) xs x (IsPermutation-sym xs (in_order cmp xs) (IsPermutation-in_order cmp xs)) h
+    Contains-permutation (in_order cmp xs) xs x (IsPermutation-sym xs (in_order cmp xs) (order_permutes cmp xs)) h
 
 -- a test finds an element of it alike
 pub list_any-in_order : {X : Type 0} (cmp : X → X → Ordering) (p : X → Bool) (xs : List X) → list_any p (in_order cmp xs) ≡ list_any p xs
-list_any-in_order cmp p xs = sym (list_any-IsPermutation p xs (in_order cmp xs) (IsPermutation-in_order cmp xs))
+list_any-in_order cmp p xs = sym (list_any-IsPermutation p xs (in_order cmp xs) (order_permutes cmp xs))
 
 -- what holds of the first and each later one, and of each pair of the others
 pub AllPairs-head : {X : Type 0} (R : X → X → Type 0) (x : X) (xs : List X) → AllPairs R (x ∷ xs) → All (R x) xs
@@ -64,57 +48,15 @@ AllPairs-put_apart : {X : Type 0} (cmp : X → X → Ordering) (R : X → X → 
 AllPairs-put_apart cmp R back x [] each h = AllPairs-cons R x [] each h
 AllPairs-put_apart cmp R back x (y ∷ ys) each h =
     put_pairs R x y ys (put cmp x ys) (is_lt (cmp y x)) h
-    (λ e. back x y (All-head (R x) y ys each)) (λ e. each) (IsPermutation-put cmp x ys)
+    (λ e. back x y (All-head (R x) y ys each)) (λ e. each) (put_permutes cmp x ys)
     (AllPairs-put_apart cmp R back x ys (All-tail (R x) y ys each) (AllPairs-tail R y ys h))
 
 pub AllPairs-in_order : {X : Type 0} (cmp : X → X → Ordering) (R : X → X → Type 0) → ((x y : X) → R x y → R y x) → (xs : List X) → AllPairs R xs → AllPairs R (in_order cmp xs)
 AllPairs-in_order cmp R back [] h = h
 AllPairs-in_order cmp R back (x ∷ xs) h =
     AllPairs-put_apart cmp R back x (in_order cmp xs)
-    (All-permutation (R x) xs (in_order cmp xs) (IsPermutation-in_order cmp xs) (AllPairs-head R x xs h))
+    (All-permutation (R x) xs (in_order cmp xs) (order_permutes cmp xs) (AllPairs-head R x xs h))
     (AllPairs-in_order cmp R back xs (AllPairs-tail R x xs h))
-
--- the later one is not below the earlier one
-abbrev pub IsNotAbove : {X : Type 0} → (X → X → Ordering) → X → X → Type 0
-IsNotAbove cmp x y = is_lt (cmp y x) ≡ false
-
-rises_put : {X : Type 0} (cmp : X → X → Ordering) → IsTotalOrder cmp → (x : X) (xs : List X) → AllPairs (IsNotAbove cmp) xs → AllPairs (IsNotAbove cmp) (put cmp x xs)
-rises_put cmp o x [] h = AllPairs-cons (IsNotAbove cmp) x [] (All-nil (IsNotAbove cmp x)) h
-rises_put cmp o x (y ∷ ys) h =
-    put_pairs (IsNotAbove cmp) x y ys (put cmp x ys) (is_lt (cmp y x)) h
-    (λ e. order.one_way y x e)
-    (λ e. All-cons (IsNotAbove cmp x) y ys e
-    (All-weaker (IsNotAbove cmp y) (IsNotAbove cmp x) (λ z above. order.chain z y x above e) ys (AllPairs-head (IsNotAbove cmp) y ys h)))
-    (IsPermutation-put cmp x ys)
-    (rises_put cmp o x ys (AllPairs-tail (IsNotAbove cmp) y ys h))
-  where
-    order : IsStrictWeakOrder (λ a b. is_lt (cmp a b))
-    order = ranks_by o (λ a. a)
-
--- by a total order each element is above none behind it
-pub rises_in_order : {X : Type 0} (cmp : X → X → Ordering) → IsTotalOrder cmp → (xs : List X) → AllPairs (IsNotAbove cmp) (in_order cmp xs)
-rises_in_order cmp o [] = AllPairs-nil (IsNotAbove cmp)
-rises_in_order cmp o (x ∷ xs) = rises_put cmp o x (in_order cmp xs) (rises_in_order cmp o xs)
-
--- and the list is sorted
-pub IsSorted-in_order : {X : Type 0} (cmp : X → X → Ordering) → IsTotalOrder cmp → (xs : List X) → IsSorted cmp (in_order cmp xs)
-IsSorted-in_order cmp o xs = λ k d l m. rises_in_order cmp o xs k (k + 1) d (omega arith) m
-
-map_put_step : {X Y : Type 0} (f : X → Y) (x y : X) (ys later : List X) (b c : Bool) → c ≡ b → map f (cond b (y ∷ later) (x ∷ (y ∷ ys))) ≡ cond c (f y ∷ map f later) (f x ∷ (f y ∷ map f ys))
-map_put_step f x y ys later true c e = ap (λ (t : Bool). cond t (f y ∷ map f later) (f x ∷ (f y ∷ map f ys))) (sym e)
-map_put_step f x y ys later false c e = ap (λ (t : Bool). cond t (f y ∷ map f later) (f x ∷ (f y ∷ map f ys))) (sym e)
-
-map-put : {X Y : Type 0} (f : X → Y) (cmp : X → X → Ordering) (other : Y → Y → Ordering) → ((x y : X) → other (f x) (f y) ≡ cmp x y) → (x : X) (xs : List X) → map f (put cmp x xs) ≡ put other (f x) (map f xs)
-map-put f cmp other same x [] = refl
-map-put f cmp other same x (y ∷ ys) =
-    map_put_step f x y ys (put cmp x ys) (is_lt (cmp y x)) (is_lt (other (f y) (f x))) (ap is_lt (same y x))
-    ∙ ap (λ rest. cond (is_lt (other (f y) (f x))) (f y ∷ rest) (f x ∷ (f y ∷ map f ys))) (map-put f cmp other same x ys)
-
--- what f makes of a list in order is in f's order
-pub map-in_order : {X Y : Type 0} (f : X → Y) (cmp : X → X → Ordering) (other : Y → Y → Ordering) → ((x y : X) → other (f x) (f y) ≡ cmp x y) → (xs : List X) → map f (in_order cmp xs) ≡ in_order other (map f xs)
-map-in_order f cmp other same [] = refl
-map-in_order f cmp other same (x ∷ xs) =
-    map-put f cmp other same x (in_order cmp xs) ∙ ap (put other (f x)) (map-in_order f cmp other same xs)
 
 put_before : {X : Type 0} (cmp : X → X → Ordering) (x y : X) (ys : List X) → is_lt (cmp y x) ≡ false → put cmp x (y ∷ ys) ≡ x ∷ (y ∷ ys)
 put_before cmp x y ys e = ap (λ (b : Bool). cond b (y ∷ put cmp x ys) (x ∷ (y ∷ ys))) e

@@ -1,5 +1,5 @@
 -- The intervals of a run, and the hits of one of them.
-use Rattle.std.proofs.Common.{◌≡◌, ◌≢◌, ℕ, zero, suc, ◌+◌, ◌-◌, ◌<◌, ◌≤◌, min, Bool, true, false, cond, ◌&&◌, List, [], ◌∷◌, ◌++◌, append-nil, map, filter, flat_map, Contains, ⊎_elim, refl, ap, ap₂, ◌∙◌, subst, arith}
+use Rattle.std.proofs.Common.{◌≡◌, ◌≢◌, ℕ, zero, suc, ◌+◌, ◌-◌, ◌<◌, ◌≤◌, min, Bool, true, false, cond, ◌&&◌, List, [], ◌∷◌, ◌++◌, append-nil, map, filter, flat_map, Contains, ⊎_elim, refl, ap, ap₂, ◌∙◌, arith}
 use Rattle.std.specs.Prelude.{◌==◌}
 use Rattle.std.specs.List.{range_with_len}
 use Rattle.std.proofs.lemmas.Bool.{and_from, and_left, and_right, cases_eq, eq-eqb, ne_eqb}
@@ -7,8 +7,9 @@ use Rattle.std.proofs.lemmas.List.Concat.{flat_map-append}
 use Rattle.std.proofs.lemmas.List.Elements.{filter-append}
 use Rattle.chew_spec_syllable.specs.Row.{Row}
 use Rattle.chew_spec_dictionary.specs.Look.{Interval, hit_of, intervals}
+use Rattle.chew_spec_dictionary.proofs.Hits.{listed_within}
 use Rattle.chew_spec_phrasing.specs.Combined.{is_hit_at}
-use Rattle.chew_spec_phrasing.proofs.Membership.{Contains-nil, Contains-head, Contains-tail, Contains-cases, Contains-from_flat_map, Contains-from_map}
+use Rattle.chew_spec_phrasing.proofs.Membership.{Contains-head, Contains-tail}
 
 -- pieces that are alike at each element give one list
 pub flat_map_alike : {X Y : Type 0} (f g : X → List Y) (xs : List X) → ((x : X) → Contains xs x → f x ≡ g x) → flat_map f xs ≡ flat_map g xs
@@ -54,14 +55,6 @@ flat_map-range_one f a (suc n) j none l m =
     (λ other. ap₂ (λ ys zs. ys ++ zs) (none a other) (flat_map-range_one f (a + 1) n j none (let below : a ≢ j = other in omega arith) (omega arith)))
     (cases_eq a j)
 
--- the numbers of a range
-pub Contains-from_range : (a n k : ℕ) → Contains (range_with_len a n) k → (a ≤ k) × (k < a + n)
-Contains-from_range a zero k h = absurd (Contains-nil k h)
-Contains-from_range a (suc n) k h =
-    ⊎_elim (λ same. (omega arith, omega arith))
-    (λ later. let rest = Contains-from_range (a + 1) n k later in (omega arith, omega arith))
-    (Contains-cases a (range_with_len (a + 1) n) k h)
-
 -- the interval lies in a run of n syllables and has 1 to 11
 pub record IsIn (n : ℕ) (at : Interval) : Type 0 where
   pub starts : at.start < n
@@ -71,11 +64,8 @@ pub record IsIn (n : ℕ) (at : Interval) : Type 0 where
 -- each of the intervals of a run does
 pub IsIn-from_intervals : (n : ℕ) (at : Interval) → Contains (intervals n) at → IsIn n at
 IsIn-from_intervals n at h =
-    let by_start = Contains-from_flat_map (λ start. map (λ len. record { start = start; len = len }) (range_with_len 1 (min 11 (n - start)))) (range_with_len 0 n) at h in
-    let by_len = Contains-from_map (λ len. record { start = by_start.0; len = len }) (range_with_len 1 (min 11 (n - by_start.0))) at by_start.2 in
-    let starts = Contains-from_range 0 n by_start.0 by_start.1 in
-    let lens = Contains-from_range 1 (min 11 (n - by_start.0)) by_len.0 by_len.1 in
-    subst (IsIn n) by_len.2 (record { starts = omega (arith, starts.1); from_one = lens.0; fits = omega (arith, lens.1) })
+    let within = listed_within n at h in
+    record { starts = omega (arith, within.0, within.2); from_one = within.0; fits = omega (arith, within.1, within.2) }
 
 kept_hits_step : (at i : Interval) (b : Bool) (rows : List Row) → ((i.start == at.start) && (i.len == at.len)) ≡ b → filter (is_hit_at at) (map (hit_of i) rows) ≡ cond b (map (hit_of i) rows) []
 kept_hits_step at i true [] e = refl

@@ -1,7 +1,8 @@
 -- What is an element of a list that is made of others.
 use Rattle.std.proofs.Common.{◌≡◌, ℕ, zero, suc, ◌<◌, Bool, true, false, cond, List, [], ◌∷◌, length, get_or, map, filter, flat_map, filter_map, Option, Some, None, Contains, All, ◌⊎◌, inl, inr, ⊎_elim, sym, refl, ap, ◌∙◌, subst, arith}
-use Rattle.std.proofs.lemmas.List.Elements.{All-cons, All-nil, Contains-append_left, Contains-append_right, Contains-append_cases}
+use Rattle.std.proofs.lemmas.List.Elements.{All-cons, All-nil, Contains-append_cases}
 use Rattle.std.specs.List.{cons_option}
+use Rattle.chew_spec_dictionary.proofs.Hits.{contained_filter, contained_joined, contained_map}
 
 -- nothing is an element of the empty list
 pub Contains-nil : {X : Type 0} (x : X) → Contains [] x → ⊥
@@ -28,11 +29,7 @@ Contains-single y x h = ⊎_elim (λ e. e) (λ none. absurd (Contains-nil x none
 
 -- an element of a piece is one of the pieces joined
 pub Contains-flat_map : {X Y : Type 0} (f : X → List Y) (xs : List X) (x : X) (y : Y) → Contains xs x → Contains (f x) y → Contains (flat_map f xs) y
-Contains-flat_map f [] x y h i = absurd (Contains-nil x h)
-Contains-flat_map f (z ∷ zs) x y h i =
-    ⊎_elim (λ e. Contains-append_left (f z) (flat_map f zs) y (subst (λ w. Contains (f w) y) (sym e) i))
-    (λ later. Contains-append_right (f z) (flat_map f zs) y (Contains-flat_map f zs x y later i))
-    (Contains-cases z zs x h)
+Contains-flat_map = contained_joined
 
 -- an element of the pieces joined is one of a piece
 pub Contains-from_flat_map : {X Y : Type 0} (f : X → List Y) (xs : List X) (y : Y) → Contains (flat_map f xs) y → (x : X) × Contains xs x × Contains (f x) y
@@ -73,21 +70,9 @@ kept_either : {X : Type 0} (b : Bool) (z : X) (zs : List X) (x : X) → Contains
 kept_either true z zs x h = ⊎_elim (λ e. inl (e, refl)) (λ later. inr later) (Contains-cases z zs x h)
 kept_either false z zs x h = inr h
 
-kept_later : {X : Type 0} (b : Bool) (z : X) (zs : List X) (x : X) → Contains zs x → Contains (cond b (z ∷ zs) zs) x
-kept_later true z zs x h = Contains-tail z zs x h
-kept_later false z zs x h = h
-
-kept_first : {X : Type 0} (b : Bool) (z : X) (zs : List X) (x : X) → b ≡ true → z ≡ x → Contains (cond b (z ∷ zs) zs) x
-kept_first b z zs x passes e =
-    subst (λ c. Contains (cond c (z ∷ zs) zs) x) (sym passes) (subst (λ w. Contains (z ∷ zs) w) e (Contains-head z zs))
-
 -- a filter keeps each element that passes
 pub Contains-filter : {X : Type 0} (p : X → Bool) (xs : List X) (x : X) → Contains xs x → p x ≡ true → Contains (filter p xs) x
-Contains-filter p [] x h passes = absurd (Contains-nil x h)
-Contains-filter p (z ∷ zs) x h passes =
-    ⊎_elim (λ e. kept_first (p z) z (filter p zs) x (ap p e ∙ passes) e)
-    (λ later. kept_later (p z) z (filter p zs) x (Contains-filter p zs x later passes))
-    (Contains-cases z zs x h)
+Contains-filter p xs x h passes = contained_filter p x passes xs h.0 h.1 h.2
 
 -- and no other
 pub Contains-from_filter : {X : Type 0} (p : X → Bool) (xs : List X) (x : X) → Contains (filter p xs) x → Contains xs x × (p x ≡ true)
@@ -99,11 +84,7 @@ Contains-from_filter p (z ∷ zs) x h =
 
 -- f of each element is one of the list of them, and no other is
 pub Contains-map : {X Y : Type 0} (f : X → Y) (xs : List X) (x : X) → Contains xs x → Contains (map f xs) (f x)
-Contains-map f [] x h = absurd (Contains-nil x h)
-Contains-map f (z ∷ zs) x h =
-    ⊎_elim (λ e. subst (λ w. Contains (f z ∷ map f zs) (f w)) e (Contains-head (f z) (map f zs)))
-    (λ later. Contains-tail (f z) (map f zs) (f x) (Contains-map f zs x later))
-    (Contains-cases z zs x h)
+Contains-map f xs x h = contained_map f x xs h.0 h.1 h.2
 
 pub Contains-from_map : {X Y : Type 0} (f : X → Y) (xs : List X) (y : Y) → Contains (map f xs) y → (x : X) × Contains xs x × (f x ≡ y)
 Contains-from_map f [] y h = absurd (Contains-nil y h)

@@ -15,11 +15,11 @@ use Rattle.chew_spec_dictionary.specs.Call.{Hit}
 use Rattle.chew_spec_dictionary.specs.Look.{Interval, codes_at, hit_of, shown_cmp}
 use Rattle.chew_spec_dictionary.specs.Order.{in_order}
 use Rattle.chew_spec_dictionary.specs.System.{phrase_cmp, rows_of, rows_under}
+use Rattle.chew_spec_dictionary.proofs.Order.{order_permutes}
+use Rattle.chew_spec_dictionary.proofs.Rows.{shown_hit_total, then_equal}
+use Rattle.chew_spec_dictionary.proofs.Sorting.{in_order_map}
 use Rattle.chew_spec_phrasing.specs.Combined.{combined, found_rows, has_phrase, is_free_of, is_hit_at, shown_hit_cmp, unsorted_hits}
-use Rattle.chew_spec_phrasing.proofs.Best.{then_equal}
 use Rattle.chew_spec_phrasing.proofs.Combined.{bytes_eq_from_same, same_from_bytes_eq}
-use Rattle.chew_spec_phrasing.proofs.CombinedHits.{shown_hit_cmp_total}
-use Rattle.chew_spec_phrasing.proofs.InOrder.{IsPermutation-in_order, map-in_order}
 use Rattle.chew_spec_phrasing.proofs.Sorted.{IsAlike, IsAlike-append, IsAlike-filter, IsAlike-from_IsPermutation, IsAlike-map, IsAlike-trans, in_order_from_sorted}
 
 -- a hit as a row of its key
@@ -96,12 +96,12 @@ hits_from_sorted system run user at hits moved sorted =
     (record { sums = λ f. refl })
     (IsAlike-map (hit_of at) theirs (filter (is_free_of mine) (rows_of system key))
     (IsAlike-filter (is_free_of mine) (rows_under system key) (rows_of system key)
-    (IsAlike-from_IsPermutation (rows_under system key) (rows_of system key) (IsPermutation-in_order phrase_cmp (rows_under system key))))))
+    (IsAlike-from_IsPermutation (rows_under system key) (rows_of system key) (order_permutes phrase_cmp (rows_under system key))))))
     (IsAlike-from_IsPermutation (unsorted_hits system run user at) hits moved) in
-    in_order_from_sorted shown_hit_cmp shown_hit_cmp_total (IsHitOf at) (same_hits at) (mine ++ map (hit_of at) theirs) hits
+    in_order_from_sorted shown_hit_cmp shown_hit_total (IsHitOf at) (same_hits at) (mine ++ map (hit_of at) theirs) hits
     (all_of theirs) (All-permutation (IsHitOf at) (unsorted_hits system run user at) hits moved (all_of (filter (is_free_of mine) (rows_of system key)))) alike sorted
     ∙ sym (
     ap (λ rows. map (hit_of at) (in_order shown_cmp (rows_under (found_rows run user at) key ++ rows))) (filter_agree free_of_seen (is_free_of mine) same_phrases (rows_under system key))
-    ∙ (map-in_order (hit_of at) shown_cmp shown_hit_cmp (λ x y. refl) (rows_under (found_rows run user at) key ++ theirs)
+    ∙ (sym (in_order_map (hit_of at) shown_cmp shown_hit_cmp (λ x y. refl) (rows_under (found_rows run user at) key ++ theirs))
     ∙ ap (in_order shown_hit_cmp) (map-append (hit_of at) (rows_under (found_rows run user at) key) theirs
     ∙ ap (λ xs. xs ++ map (hit_of at) theirs) (seen_hits at key mine passes))))

@@ -8,15 +8,16 @@ ghost use Rattle.std.specs.declared.cmp.Ordering.TheVariants.{Equal};
 ghost use Rattle.chew_spec_syllable.specs.Row.{Row, image_cmp, no_pair_twice};
 ghost use Rattle.chew_spec_dictionary.specs.Order.{in_order};
 ghost use Rattle.chew_spec_dictionary.specs.System.{row_of, rows_of, rows_under, phrase_cmp, freq_of, peak_of, has_single};
-ghost use Rattle.chew_spec_dictionary.specs.Look.{shown_cmp};
+ghost use Rattle.chew_spec_dictionary.specs.Look.{shown_cmp, shown_hit_cmp};
 ghost use Rattle.chew_spec_dictionary.specs.Dictionary.{is_map};
 
-/// The three orders of rows are total. Image order is by the key's length, then its codes, then the
+/// The three orders of rows are total, and that in which the hits of an interval are shown. Image order is by the key's length, then its codes, then the
 /// phrase's bytes, so only rows of one pair tie in it.
 pub fn orders_of_rows()
     ensures image { IsTotalOrder image_cmp }
     ensures phrase { IsTotalOrder phrase_cmp }
     ensures shown { IsTotalOrder shown_cmp }
+    ensures hits { IsTotalOrder shown_hit_cmp }
     ensures image_parts { (row other : Row) → image_cmp row other ≡ ordering_then (nat_cmp (length row.key) (length other.key)) (ordering_then (slice_cmp nat_cmp row.key other.key) (slice_cmp nat_cmp row.phrase other.phrase)) }
     ensures image_ties { (row other : Row) → image_cmp row other ≡ Equal → (row.key ≡ other.key) × (row.phrase ≡ other.phrase) }
 {}
