@@ -1,5 +1,6 @@
 pub mod Call
 pub mod Dictionary
+pub mod FiveRows
 pub mod Frequency
 pub mod History
 pub mod Look

@@ -1,10 +1,10 @@
 pub mod Context
 pub mod Editor
 pub mod Finish
-pub mod FiveRows
 pub mod Keys
 pub mod Left
 pub mod Press
 pub mod Program
 pub mod Sound
 pub mod Talk
+pub mod TenCells

@@ -3,12 +3,12 @@ use Rattle.std.proofs.Common.{◌≡◌, ℕ, Bool, true, false, cond, ◌&&◌,
 use Rattle.std.specs.Prelude.{◌==◌, nat_le}
 use Rattle.std.specs.Option.{option_map_or}
 use Rattle.std.proofs.lemmas.Bool.{and_parts}
-use Rattle.std.proofs.lemmas.List.Elements.{All-contains}
+use Rattle.std.proofs.lemmas.List.Elements.{All-cons, All-contains, All-nil}
 use Rattle.std.proofs.lemmas.Option.{none-some, same_Some}
 use Rattle.chew_spec_dictionary.specs.Call.{Hit}
 use Rattle.chew_spec_dictionary.specs.Look.{Interval}
 use Rattle.chew_spec_phrasing.specs.Combined.{is_hit_at}
-use Rattle.chew_spec_phrasing.specs.Usable.{Choice, HaveOwnLengths, Piece, first_row, is_exactly, is_unbroken, keeps_choices, phrase_len, piece_at, piece_by_rows, piece_of_choice, piece_of_hit}
+use Rattle.chew_spec_phrasing.specs.Usable.{Choice, HaveOwnLengths, IsFirst, Piece, first_row, is_exactly, is_unbroken, keeps_choices, phrase_len, piece_at, piece_by_rows, piece_of_choice, piece_of_hit}
 use Rattle.chew_spec_phrasing.specs.Segmentation.{GivesOwn, IsOf}
 use Rattle.chew_spec_phrasing.proofs.Membership.{Contains-head, Contains-tail}
 
@@ -29,6 +29,42 @@ found_at p false z zs x e rest h =
 pub Passes-from_find : {X : Type 0} (p : X → Bool) (xs : List X) (x : X) → find p xs ≡ Some x → Passes p xs x
 Passes-from_find p [] x e = absurd (none-some x e)
 Passes-from_find p (z ∷ zs) x e = found_at p (p z) z zs x refl (Passes-from_find p zs x) e
+
+first_at : {X : Type 0} (p : X → Bool) (b : Bool) (z : X) (zs : List X) (x : X) → p z ≡ b → (find p zs ≡ Some x → IsFirst p zs x) → cond b (Some z) (find p zs) ≡ Some x → IsFirst p (z ∷ zs) x
+first_at p true z zs x e rest h =
+    let same = same_Some z x h in
+    record { before = []; after = zs; parts = ap (λ y. y ∷ zs) same; passes = ap p (sym same) ∙ e; none_before = All-nil (λ y. p y ≡ false) }
+first_at p false z zs x e rest h =
+    let r = rest h in
+    record {
+      before = z ∷ r.before;
+      after = r.after;
+      parts = ap (λ ys. z ∷ ys) r.parts;
+      passes = r.passes;
+      none_before = All-cons (λ y. p y ≡ false) z r.before e r.none_before;
+    }
+
+-- and the first that does
+pub IsFirst-from_find : {X : Type 0} (p : X → Bool) (xs : List X) (x : X) → find p xs ≡ Some x → IsFirst p xs x
+IsFirst-from_find p [] x e = absurd (none-some x e)
+IsFirst-from_find p (z ∷ zs) x e = first_at p (p z) z zs x refl (IsFirst-from_find p zs x) e
+
+-- a row that keeps the choices is the piece, and the first that does
+abbrev pub FirstRow : List Hit → List Choice → Interval → Piece → Type 0
+FirstRow rows choices at piece = (row : Hit) × IsFirst (λ hit. is_hit_at at hit && keeps_choices choices at hit.phrase) rows row × (piece ≡ piece_of_hit row)
+
+first_of_rows : (rows : List Hit) (choices : List Choice) (at : Interval) (piece : Piece) (o : Option Hit) → first_row rows choices at ≡ o → option_map piece_of_hit o ≡ Some piece → FirstRow rows choices at piece
+first_of_rows rows choices at piece None is e = absurd (none-some piece e)
+first_of_rows rows choices at piece (Some hit) is e =
+    (hit, IsFirst-from_find (λ row. is_hit_at at row && keeps_choices choices at row.phrase) rows hit is, sym (same_Some (piece_of_hit hit) piece e))
+
+-- the piece of an interval by its rows is the first of them that keeps the choices
+pub first-from_piece_by_rows : (rows : List Hit) (breaks : List ℕ) (choices : List Choice) (at : Interval) (piece : Piece) → piece_by_rows rows breaks choices at ≡ Some piece → FirstRow rows choices at piece
+first-from_piece_by_rows rows breaks choices at piece e = by_test (nat_le at.len 11 && is_unbroken breaks at) e
+  where
+    by_test : (b : Bool) → cond b (option_map piece_of_hit (first_row rows choices at)) None ≡ Some piece → FirstRow rows choices at piece
+    by_test true e = first_of_rows rows choices at piece (first_row rows choices at) refl e
+    by_test false e = absurd (none-some piece e)
 
 -- a test of two tests has both
 pub record BothTrue (a b : Bool) : Type 0 where

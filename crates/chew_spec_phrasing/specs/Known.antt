@@ -1,6 +1,5 @@
--- Small dictionaries and runs, for known values.
+-- Small runs, their hits and pieces, for known values.
 use Rattle.std.specs.Prelude.{ℕ, zero, suc, List, [], ◌∷◌, ◌++◌}
-use Rattle.chew_spec_syllable.specs.Row.{Row}
 use Rattle.chew_spec_dictionary.specs.Call.{Hit}
 use Rattle.chew_spec_phrasing.specs.Usable.{Choice, Piece}
 
@@ -16,23 +15,6 @@ be = 0xE6 ∷ 0x98 ∷ 0xAF ∷ []
 
 abbrev pub attempt : List ℕ
 attempt = 0xE8 ∷ 0xA9 ∷ 0xA6 ∷ []
-
--- ㄘㄜˋ and ㄕˋ
-abbrev pub ce : ℕ
-ce = 10268
-
-abbrev pub shi : ℕ
-shi = 8708
-
-abbrev pub row_of_system : List ℕ → List ℕ → ℕ → Row
-row_of_system key phrase freq = record { key = key; phrase = phrase; freq = freq; time = 0 }
-
--- 測, 策, 是, 試 and 測試
-abbrev pub five_rows : List Row
-five_rows =
-    row_of_system (ce ∷ []) survey 100 ∷ row_of_system (ce ∷ []) plan 200
-    ∷ row_of_system (shi ∷ []) be 9000 ∷ row_of_system (shi ∷ []) attempt 300
-    ∷ row_of_system (ce ∷ shi ∷ []) (survey ++ attempt) 9318 ∷ []
 
 abbrev pub hit : ℕ → ℕ → List ℕ → ℕ → Hit
 hit start len phrase freq = record { start = start; len = len; phrase = phrase; freq = freq }

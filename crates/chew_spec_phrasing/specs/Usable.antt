@@ -1,5 +1,5 @@
 -- Which intervals of a run may be pieces, given the combined rows, the breaks and the user's choices.
-use Rattle.std.specs.Prelude.{◌≡◌, ℕ, ◌<◌, ◌≤◌, ◌+◌, ◌-◌, Bool, true, not, ◌&&◌, List, All, Contains, length, take, drop, find, ◌==◌, nat_lt, nat_le, chars, bytes_eq, Option, Some, None, if◌then◌else◌}
+use Rattle.std.specs.Prelude.{◌≡◌, ℕ, ◌<◌, ◌≤◌, ◌+◌, ◌-◌, Bool, true, false, not, ◌&&◌, List, ◌∷◌, ◌++◌, All, Contains, length, take, drop, find, ◌==◌, nat_lt, nat_le, chars, bytes_eq, Option, Some, None, if◌then◌else◌}
 use Rattle.std.specs.Option.{option_map, option_map_or}
 use Rattle.std.specs.List.{list_all}
 use Rattle.chew_spec_dictionary.specs.Call.{Hit}
@@ -76,6 +76,14 @@ piece_by_rows rows breaks choices at =
 unfoldable pub piece_at : List Hit → List ℕ → List Choice → Interval → Option Piece
 piece_at rows breaks choices at =
     option_map_or (λ choice. Some (piece_of_choice choice)) (find (is_exactly at) choices) (piece_by_rows rows breaks choices at)
+
+-- the first of a list that passes a test: none before it does
+pub record IsFirst {X : Type 0} (p : X → Bool) (xs : List X) (x : X) : Type 0 where
+  pub before : List X
+  pub after : List X
+  pub parts : xs ≡ before ++ (x ∷ after)
+  pub passes : p x ≡ true
+  pub none_before : All (λ y. p y ≡ false) before
 
 -- what makes a row the piece of an interval: at most 11 syllables, no break strictly inside, and each choice that meets
 -- the interval lies in it and has its characters in the row's phrase

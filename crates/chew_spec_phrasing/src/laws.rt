@@ -1,21 +1,22 @@
 //! Laws and known values of the definitions.
 
-ghost use Rattle.std.specs.Prelude.{◌≡◌, ◌≢◌, ◌↔◌, ◌⊎◌, ◌+◌, ◌++◌, ◌<◌, ◌≤◌, ◌||◌, ℕ, [], ◌∷◌, false, flat_map, length, map, sum, true, All, AllPairs, Any, Contains, IsPermutation, IsSorted, List, Option, Some, None};
+ghost use Rattle.std.specs.Prelude.{◌≡◌, ◌≢◌, ◌↔◌, ◌⊎◌, ◌+◌, ◌++◌, ◌<◌, ◌≤◌, ◌&&◌, ◌||◌, ℕ, [], ◌∷◌, false, flat_map, length, map, sum, true, All, AllPairs, Any, Contains, IsPermutation, IsSorted, List, Option, Some, None};
 ghost use Rattle.std.specs.Cmp.{IsTotalOrder};
 ghost use Rattle.std.specs.List.{list_any};
 ghost use Rattle.std.specs.declared.cmp.Ordering.TheVariants.{Equal};
 ghost use Rattle.chew_spec_syllable.specs.Row.{Row, no_pair_twice};
 ghost use Rattle.chew_spec_dictionary.specs.Call.{Hit};
+ghost use Rattle.chew_spec_dictionary.specs.FiveRows.{ce4, five_rows, row_at_start, shi4};
 ghost use Rattle.chew_spec_dictionary.specs.Look.{Interval, codes_at, hit_of, hits_of, intervals, shown_cmp};
 ghost use Rattle.chew_spec_dictionary.specs.System.{has_single, rows_under};
 ghost use Rattle.chew_spec_phrasing.specs.Best.{IsBest, best_of, best_pieces, score_cmp, segmentation_cmp};
 ghost use Rattle.chew_spec_phrasing.specs.CanSegment.{CanSegment, Shows, interval_of};
-ghost use Rattle.chew_spec_phrasing.specs.Combined.{combined, combined_hits, found_rows, has_phrase, shown_hit_cmp, unsorted_hits};
-ghost use Rattle.chew_spec_phrasing.specs.Known.{attempt, be, be_times, ce, choice, five_hits, five_rows, four_syllables, piece, plan, row_of_system, shi, survey, three_syllables};
+ghost use Rattle.chew_spec_phrasing.specs.Combined.{combined, combined_hits, found_rows, has_phrase, is_hit_at, shown_hit_cmp, unsorted_hits};
+ghost use Rattle.chew_spec_phrasing.specs.Known.{attempt, be, be_times, choice, five_hits, four_syllables, piece, plan, survey, three_syllables};
 ghost use Rattle.chew_spec_phrasing.specs.Score.{gain, loss};
 ghost use Rattle.chew_spec_phrasing.specs.Search.{HasFirst, Improves, IsCompletion};
 ghost use Rattle.chew_spec_phrasing.specs.Segmentation.{AddsUp, GivesOwn, IsSegmentation, freqs, lengths, lengths_of, pieces_from, segmentations, starts, starts_from};
-ghost use Rattle.chew_spec_phrasing.specs.Usable.{Choice, HaveOwnLengths, IsByRow, Piece, choice_end, is_exactly, is_unbroken, meets, phrase_len, piece_at, piece_of_choice};
+ghost use Rattle.chew_spec_phrasing.specs.Usable.{Choice, HaveOwnLengths, IsByRow, IsFirst, Piece, choice_end, is_exactly, is_unbroken, keeps_choices, meets, phrase_len, piece_at, piece_of_choice, piece_of_hit};
 
 /// The lengths of n are the lists of lengths from 1 that add up to n, each of them and no other.
 pub fn lengths_add_up()
@@ -70,7 +71,8 @@ pub fn best_is_greatest_then_longest()
 {}
 
 /// The piece of an interval: exactly a choice's has the choice's phrase and kept frequency, whatever rows and breaks
-/// there are; any other has a row's, and none where no row will do or the interval is longer than 11.
+/// there are; any other has those of the first combined row that agrees with the choices, and none where no row will
+/// do or the interval is longer than 11.
 pub fn usable_intervals()
     ensures chosen { (rows : List Hit) (breaks : List ℕ) (choices : List Choice) (n : ℕ) (choice : Choice)
         → CanSegment rows choices n → Contains choices choice
@@ -78,6 +80,9 @@ pub fn usable_intervals()
     ensures by_row { (rows : List Hit) (breaks : List ℕ) (choices : List Choice) (at : Interval) (piece : Piece)
         → list_any (is_exactly at) choices ≡ false → piece_at rows breaks choices at ≡ Some piece
         → IsByRow rows breaks choices at piece }
+    ensures first { (rows : List Hit) (breaks : List ℕ) (choices : List Choice) (at : Interval) (piece : Piece)
+        → list_any (is_exactly at) choices ≡ false → piece_at rows breaks choices at ≡ Some piece
+        → (row : Hit) × IsFirst (λ hit. is_hit_at at hit && keeps_choices choices at hit.phrase) rows row × (piece ≡ piece_of_hit row) }
     ensures usable { (rows : List Hit) (breaks : List ℕ) (choices : List Choice) (at : Interval) (piece : Piece)
         → list_any (is_exactly at) choices ≡ false → IsByRow rows breaks choices at piece
         → (first : Piece) × (piece_at rows breaks choices at ≡ Some first) }
@@ -129,8 +134,9 @@ pub fn best_is_there()
         → IsBest (piece_at rows breaks choices) n (best_pieces rows breaks choices n) }
 {}
 
-/// The combined rows of a key: the user's, and those of the system whose phrase the user has not for it, each phrase
-/// once, in the order in which they are shown.
+/// The combined rows of a key: the user's, and those of the system whose phrase the user has not for it, in the order in
+/// which they are shown. Where no pair stands twice in the system's rows nor in the user's, each phrase stands once; and
+/// where none does in the user's, a row of the user's phrase is the user's.
 pub fn combined_rows_hide()
     ensures sorted { (system user : List Row) (key : List ℕ) → IsSorted shown_cmp (combined system user key) }
     ensures once { (system user : List Row) (key : List ℕ) → no_pair_twice system ≡ true → no_pair_twice user ≡ true
@@ -187,14 +193,14 @@ pub fn known_best()
 
 /// The combined rows of a dictionary of 測, 策, 是, 試 and 測試, where the user has none.
 pub fn known_combined_rows()
-    ensures ce { combined five_rows [] (ce ∷ [])
-        ≡ row_of_system (ce ∷ []) plan 200 ∷ row_of_system (ce ∷ []) survey 100 ∷ [] }
-    ensures shi { combined five_rows [] (shi ∷ [])
-        ≡ row_of_system (shi ∷ []) be 9000 ∷ row_of_system (shi ∷ []) attempt 300 ∷ [] }
-    ensures ce_shi { combined five_rows [] (ce ∷ shi ∷ []) ≡ row_of_system (ce ∷ shi ∷ []) (survey ++ attempt) 9318 ∷ [] }
-    ensures hits { combined_hits five_rows (ce ∷ shi ∷ []) [] ≡ five_hits }
-    ensures hidden { combined five_rows (row_of_system (ce ∷ []) plan 7 ∷ []) (ce ∷ [])
-        ≡ row_of_system (ce ∷ []) survey 100 ∷ row_of_system (ce ∷ []) plan 7 ∷ [] }
+    ensures ce { combined five_rows [] (ce4 ∷ [])
+        ≡ row_at_start (ce4 ∷ []) plan 200 ∷ row_at_start (ce4 ∷ []) survey 100 ∷ [] }
+    ensures shi { combined five_rows [] (shi4 ∷ [])
+        ≡ row_at_start (shi4 ∷ []) be 9000 ∷ row_at_start (shi4 ∷ []) attempt 300 ∷ [] }
+    ensures ce_shi { combined five_rows [] (ce4 ∷ shi4 ∷ []) ≡ row_at_start (ce4 ∷ shi4 ∷ []) (survey ++ attempt) 9318 ∷ [] }
+    ensures hits { combined_hits five_rows (ce4 ∷ shi4 ∷ []) [] ≡ five_hits }
+    ensures hidden { combined five_rows (row_at_start (ce4 ∷ []) plan 7 ∷ []) (ce4 ∷ [])
+        ≡ row_at_start (ce4 ∷ []) survey 100 ∷ row_at_start (ce4 ∷ []) plan 7 ∷ [] }
     ensures best { best_of five_hits [] [] 2 ≡ Some (piece 0 (survey ++ attempt) 9318 ∷ []) }
 {}
 

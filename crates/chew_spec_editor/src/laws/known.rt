@@ -6,12 +6,13 @@ ghost use Rattle.std.specs.Str.{encode_utf8_all};
 ghost use Rattle.chew_spec_syllable.specs.Row.{is_row, no_pair_twice};
 ghost use Rattle.chew_spec_layout.specs.Layout.{Et26, Eten, Hsu, Pinyin, shown, Standard};
 ghost use Rattle.chew_spec_dictionary.specs.Call.{Look, Rows};
+ghost use Rattle.chew_spec_dictionary.specs.FiveRows.{ce4, five_rows, shi4};
 ghost use Rattle.chew_spec_text.specs.KeyStroke.{Backspace, Char, Enter, Esc, Tab};
 ghost use Rattle.chew_spec_text.specs.Line.{line_text};
 ghost use Rattle.chew_spec_editor.specs.Editor.{empty_editor};
-ghost use Rattle.chew_spec_editor.specs.FiveRows.{ce4, five_rows, shi4, ten_cells, ten_cells_of};
 ghost use Rattle.chew_spec_editor.specs.Left.{left_from};
 ghost use Rattle.chew_spec_editor.specs.Talk.{talk};
+ghost use Rattle.chew_spec_editor.specs.TenCells.{ten_cells, ten_cells_of};
 
 /// Two syllables, the second by its phrase with the first, and Enter, where the user has no rows.
 pub fn known_talk()

@@ -7,12 +7,12 @@ use Rattle.chew_spec_syllable.specs.SyllableText.{text_of}
 use Rattle.chew_spec_layout.specs.Letters.{fed_letters, reading_of}
 use Rattle.chew_spec_layout.specs.Spelling.{alone, bare_initials, ending_bare, endings_a, endings_i, endings_u, endings_v, endings_yu, fed_spelling, n_initials, palatal_initials, plain_initials, spelling_of, spellings}
 use Rattle.chew_spec_layout.specs.Table.{fed}
+use Rattle.chew_spec_dictionary.specs.FiveRows.{five_rows}
 use Rattle.chew_spec_phrasing.specs.Best.{best_of}
 use Rattle.chew_spec_phrasing.specs.Combined.{combined_hits}
 use Rattle.chew_spec_phrasing.specs.Usable.{piece_at}
 use Rattle.chew_spec_text.specs.Line.{line_text}
 use Rattle.chew_spec_editor.specs.Finish.{finish}
-use Rattle.chew_spec_editor.specs.FiveRows.{five_rows}
 use Rattle.chew_spec_editor.specs.Press.{press}
 use Rattle.chew_spec_editor.specs.Talk.{talk_from}
 use Rattle.chew_spec_editor.proofs.laws.known.known_layouts.Goals as goal
