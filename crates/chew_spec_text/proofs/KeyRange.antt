@@ -1,23 +1,17 @@
 -- The keys that a text of printable characters names are keys of a script.
-use Rattle.std.proofs.Common.{◌≡◌, ℕ, zero, suc, Bool, true, eqb, List, [], ◌∷◌, ◌++◌, drop, map, Option, Some, None, refl, ◌∙◌}
+use Rattle.std.proofs.Common.{◌≡◌, ℕ, Bool, true, eqb, List, [], ◌∷◌, ◌++◌, map, Option, Some, None, refl, ◌∙◌}
 use Rattle.std.specs.Prelude.{bytes_eq}
-use Rattle.std.specs.List.{after_first, before_first, find, list_all, list_any, slice_split, onto_first}
+use Rattle.std.specs.List.{after_first, before_first, find, list_all, list_any, slice_split}
 use Rattle.std.specs.Option.{option_and_then, option_map}
 use Rattle.std.proofs.lemmas.Bool.{and_parts, and_from, cond_both}
 use Rattle.std.proofs.lemmas.List.Folds.{list_all-append, list_all-map}
 use Rattle.chew_spec_text.specs.KeyStroke.{KeyStroke, NamedKey, Char, is_key_stroke, is_printable, key_names, key_named, keys_behind, keys_of_parts, keys_in_parts, keys_in}
 use Rattle.chew_spec_text.proofs.Found.{holds_in, found_among, made_of}
+use Rattle.chew_spec_text.proofs.Splits.{all_dropped, split_all}
 
 -- the keys are there and of a script, or there are none
 abbrev pub in_range : Option (List KeyStroke) → Bool
 in_range keys = holds_in (list_all is_key_stroke) keys
-
--- what all of a list pass, all of its end pass
-all_dropped : {A : Type 0} (p : A → Bool) (n : ℕ) (xs : List A) → list_all p xs ≡ true → list_all p (drop n xs) ≡ true
-all_dropped p zero [] h = h
-all_dropped p (suc n) [] h = h
-all_dropped p zero (x ∷ xs) h = h
-all_dropped p (suc n) (x ∷ xs) h = all_dropped p n xs (and_parts _ _ h).1
 
 -- what stands behind a byte
 pub all_after : (p q : ℕ → Bool) (xs : List ℕ) → list_all p xs ≡ true → list_all p (after_first q xs) ≡ true
@@ -70,19 +64,6 @@ all_parts_range : (parts : List (List ℕ)) → list_all (list_all is_printable)
 all_parts_range [] h = refl
 all_parts_range (characters ∷ parts) h =
     let both = and_parts _ _ h in more_range (Some (map Char characters)) (keys_of_parts parts) (chars_range characters both.0) (parts_range parts both.1)
-
--- a byte before the first part
-onto_all : (p : ℕ → Bool) (x : ℕ) (parts : List (List ℕ)) → p x ≡ true → list_all (list_all p) parts ≡ true → list_all (list_all p) (onto_first x parts) ≡ true
-onto_all p x [] e h = and_from _ _ (and_from _ _ e refl) refl
-onto_all p x (part ∷ parts) e h = let both = and_parts _ _ h in and_from _ _ (and_from _ _ e both.0) both.1
-
--- what all of a text pass, all of its parts pass
-pub split_all : (p q : ℕ → Bool) (text : List ℕ) → list_all p text ≡ true → list_all (list_all p) (slice_split q text) ≡ true
-split_all p q [] h = refl
-split_all p q (x ∷ text) h =
-    let both = and_parts _ _ h in
-    cond_both (q x) ([] ∷ slice_split q text) (onto_first x (slice_split q text)) (λ parts. list_all (list_all p) parts ≡ true)
-    (λ _. split_all p q text both.1) (λ _. onto_all p x _ both.0 (split_all p q text both.1))
 
 -- the keys of a text
 pub keys_range : (text : List ℕ) → list_all is_printable text ≡ true → in_range (keys_in text) ≡ true

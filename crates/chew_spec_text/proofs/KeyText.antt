@@ -7,6 +7,7 @@ use Rattle.std.specs.Option.{option_and_then, option_map}
 use Rattle.std.proofs.lemmas.Bool.{and_parts, leb-true, eqb-true, or_parts, cond-false, cond_both}
 use Rattle.chew_spec_syllable.proofs.Marks.{Each, at}
 use Rattle.chew_spec_text.specs.KeyStroke.{KeyStroke, Char, Enter, Backspace, Delete, Left, Right, Home, End, Up, Down, PageUp, PageDown, Tab, Esc, Add, Forget, is_key_stroke, key_text, keys_behind, keys_of_parts, keys_in_parts, keys_in}
+use Rattle.chew_spec_text.proofs.Splits.{some_part}
 
 -- the byte begins a name
 abbrev pub begins : ℕ → Bool
@@ -27,15 +28,6 @@ split_front (x ∷ front) rest h =
 front_in : (front part : List ℕ) (parts : List (List ℕ)) → onto_front front (part ∷ parts) ≡ (front ++ part) ∷ parts
 front_in [] part parts = refl
 front_in (x ∷ front) part parts = ap (onto_first x) (front_in front part parts)
-
--- a text has a first part
-some_part : (text : List ℕ) → (part : List ℕ) × (parts : List (List ℕ)) × (slice_split begins text ≡ part ∷ parts)
-some_part [] = ([], [], refl)
-some_part (x ∷ text) =
-    let s = some_part text in
-    cond_both (begins x) ([] ∷ slice_split begins text) (onto_first x (slice_split begins text))
-    (λ all. (part : List ℕ) × (parts : List (List ℕ)) × (all ≡ part ∷ parts))
-    (λ _. ([], slice_split begins text, refl)) (λ _. (x ∷ s.0, s.1, ap (onto_first x) s.2))
 
 -- a key before others
 abbrev before : KeyStroke → Option (List KeyStroke) → Option (List KeyStroke)
@@ -72,7 +64,7 @@ read_name : (front : List ℕ) (key : KeyStroke) (rest : List ℕ) → list_any 
     → keys_in (60 ∷ (front ++ rest)) ≡ before key (keys_in rest)
 unfolding keys_in
 read_name front key rest h named =
-    let s = some_part rest in
+    let s = some_part begins rest in
     let split : slice_split begins (front ++ rest) ≡ (front ++ s.0) ∷ s.1 = split_front front rest h ∙ (ap (onto_front front) s.2 ∙ front_in front s.0 s.1) in
     ap (λ parts. keys_in_parts ([] ∷ parts)) split
     ∙ (ap (λ o. option_map (λ keys. [] ++ keys) (option_and_then (λ keys. option_map (λ more. keys ++ more) (keys_of_parts s.1)) o)) (named s.0)
@@ -135,7 +127,7 @@ forgets_read = (
 )
 
 -- a number from a least one on
-counted : (P : ℕ → Type 0) (least count n : ℕ) → Each (λ k. P (least + k)) 0 count → least ≤ n → suc n ≤ least + count → P n
+pub counted : (P : ℕ → Type 0) (least count n : ℕ) → Each (λ k. P (least + k)) 0 count → least ≤ n → suc n ≤ least + count → P n
 counted P least count n all low high =
     let place : least + (n - least) ≡ n = omega arith in subst P place (at (λ k. P (least + k)) count (n - least) all (omega arith))
 

@@ -2,7 +2,9 @@ pub mod Clean
 pub mod Comments
 pub mod Contexts
 pub mod EachLine
+pub mod Fields
 pub mod Found
+pub mod KeyNames
 pub mod KeyRange
 pub mod KeyText
 pub mod Limited
@@ -10,4 +12,8 @@ pub mod Lines
 pub mod Printing
 pub mod Rows
 pub mod Script
+pub mod ScriptFaults
+pub mod ScriptLines
+pub mod ScriptPrinted
 pub mod Short
+pub mod Splits

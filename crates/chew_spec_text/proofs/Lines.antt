@@ -1,13 +1,15 @@
 -- The lines of a text.
-use Rattle.std.proofs.Common.{◌≡◌, ℕ, zero, suc, ◌-◌, ◌≤◌, Bool, true, false, eqb, List, [], ◌∷◌, ◌++◌, length, take, drop, map, refl, sym, ap, ◌∙◌, arith}
-use Rattle.std.specs.List.{flat_map, list_all, list_any, slice_split, onto_first, ends_with}
+use Rattle.std.proofs.Common.{not, ◌≡◌, ℕ, ◌-◌, ◌≤◌, Bool, true, false, eqb, List, [], ◌∷◌, ◌++◌, length, take, drop, map, refl, sym, ap, ◌∙◌, arith}
+use Rattle.std.specs.List.{flat_map, join_with_byte, list_all, list_any, slice_split, ends_with}
 use Rattle.std.specs.Cmp.Lexicographic.{pointwise}
 use Rattle.std.specs.Prelude.{nat_eq}
 use Rattle.std.proofs.Math.Seq.{drop-append_seam, take-append_seam}
-use Rattle.std.proofs.lemmas.Bool.{and_parts, and_from, and_left, or_parts, or_from, ne_eqb, eqb-false, cond-true, cond-false, not-true, not_from_false}
+use Rattle.std.proofs.lemmas.Bool.{cond_both, and_parts, and_from, and_left, or_parts, or_from, ne_eqb, eqb-false, cond-true, cond-false, not-true, not_from_false}
 use Rattle.std.proofs.lemmas.List.{append-nil, append_assoc, length-append, map-append}
+use Rattle.std.proofs.lemmas.List.Splits.{join_with_byte-slice_split}
 use Rattle.chew_spec_text.specs.Line.{with_line_feed}
 use Rattle.chew_spec_text.specs.Lines.{is_line, lines_of, with_return, without_return}
+use Rattle.chew_spec_text.proofs.Splits.{split_at, none_dropped, none_taken, none_pass, parts_free, split_all}
 
 -- the byte is a line feed, a carriage return
 abbrev pub is_feed : ℕ → Bool
@@ -15,17 +17,6 @@ is_feed byte = eqb byte 10
 
 abbrev pub is_return : ℕ → Bool
 is_return byte = eqb byte 13
-
--- a line, a line feed and a rest are split behind the line
-split_line : (line rest : List ℕ) → list_any is_feed line ≡ false → slice_split is_feed (line ++ (10 ∷ rest)) ≡ line ∷ slice_split is_feed rest
-split_line [] rest h = refl
-split_line (x ∷ line) rest h =
-    let both = or_parts _ _ h in cond-false (is_feed x) _ _ both.0 ∙ ap (onto_first x) (split_line line rest both.1)
-
--- a line alone is the only one
-pub last_line : (line : List ℕ) → list_any is_feed line ≡ false → slice_split is_feed line ≡ line ∷ []
-last_line [] h = refl
-last_line (x ∷ line) h = let both = or_parts _ _ h in cond-false (is_feed x) _ _ both.0 ∙ ap (onto_first x) (last_line line both.1)
 
 -- lines, each ended by a line feed, and a rest
 split_lines : (lines : List (List ℕ)) (rest : List ℕ) → list_all is_line lines ≡ true
@@ -35,7 +26,7 @@ split_lines (line ∷ lines) rest h =
     let both = and_parts _ _ h in
     let more = flat_map with_line_feed lines in
     ap (slice_split is_feed) (append_assoc (with_line_feed line) more rest ∙ append_assoc line (10 ∷ []) (more ++ rest))
-    ∙ (split_line line (more ++ rest) (not-true _ both.0) ∙ ap (λ ls. line ∷ ls) (split_lines lines rest both.1))
+    ∙ (split_at is_feed 10 line (more ++ rest) refl (not-true _ both.0) ∙ ap (λ ls. line ∷ ls) (split_lines lines rest both.1))
 
 -- and what their ends leave
 lines_ended : (lines : List (List ℕ)) → list_all is_line lines ≡ true → lines_of (flat_map with_line_feed lines) ≡ map without_return lines ++ [] ∷ []
@@ -81,17 +72,10 @@ no_return_first [] h = refl
 no_return_first (x ∷ xs) h =
     let both = or_parts _ _ h in and_left _ _ (ne_eqb 13 x (λ e. eqb-false x 13 both.0 (sym e)))
 
--- nor behind a front
-none_dropped : (n : ℕ) (xs : List ℕ) → list_any is_return xs ≡ false → list_any is_return (drop n xs) ≡ false
-none_dropped zero [] h = h
-none_dropped (suc n) [] h = h
-none_dropped zero (x ∷ xs) h = h
-none_dropped (suc n) (x ∷ xs) h = none_dropped n xs (or_parts _ _ h).1
-
 -- then the line stays
 pub stays : (line : List ℕ) → list_any is_return line ≡ false → without_return line ≡ line
 stays line h =
-    cond-false (ends_with nat_eq line (13 ∷ [])) _ _ (no_return_first (drop (length line - 1) line) (none_dropped (length line - 1) line h))
+    cond-false (ends_with nat_eq line (13 ∷ [])) _ _ (no_return_first (drop (length line - 1) line) (none_dropped is_return (length line - 1) line h))
 
 -- without carriage returns the text is no longer
 pub shorter : (lines : List (List ℕ)) → length (flat_map with_line_feed lines) ≤ length (flat_map with_line_feed (map with_return lines))
@@ -107,3 +91,31 @@ shorter (line ∷ lines) =
       length-append (with_return line) (10 ∷ []),
       length-append line (13 ∷ []),
     )
+
+-- a line without a line feed has none once its carriage return is dropped
+without_clean : (line : List ℕ) → is_line line ≡ true → is_line (without_return line) ≡ true
+without_clean line h =
+    cond_both (ends_with nat_eq line (13 ∷ [])) (take (length line - 1) line) line (λ l. is_line l ≡ true)
+    (λ _. not_from_false _ (none_taken is_feed (length line - 1) line (not-true _ h))) (λ _. h)
+
+-- nor have those of parts
+parts_clean : (parts : List (List ℕ)) → list_all is_line parts ≡ true → list_all is_line (map without_return parts) ≡ true
+parts_clean [] h = refl
+parts_clean (part ∷ parts) h = let both = and_parts _ _ h in and_from _ _ (without_clean part both.0) (parts_clean parts both.1)
+
+-- no line of a text has a line feed
+pub no_line_feed : (text : List ℕ) → list_all is_line (lines_of text) ≡ true
+no_line_feed text = parts_clean (slice_split is_feed text) (parts_free is_feed text)
+
+-- parts without a carriage return stay
+all_stay : (parts : List (List ℕ)) → list_all (list_all (λ byte. not (is_return byte))) parts ≡ true → map without_return parts ≡ parts
+all_stay [] h = refl
+all_stay (part ∷ parts) h =
+    let both = and_parts _ _ h in
+    ap (λ l. l ∷ map without_return parts) (stays part (none_pass is_return part both.0)) ∙ ap (λ ls. part ∷ ls) (all_stay parts both.1)
+
+-- a text without a carriage return is its lines, joined
+pub lines_joined : (text : List ℕ) → list_all (λ byte. not (is_return byte)) text ≡ true → join_with_byte 10 (lines_of text) ≡ text
+lines_joined text h =
+    ap (join_with_byte 10) (all_stay (slice_split is_feed text) (split_all (λ byte. not (is_return byte)) is_feed text h))
+    ∙ join_with_byte-slice_split 10 text

@@ -4,5 +4,6 @@ mod command;
 mod dictionary_text;
 mod entry;
 mod keys;
+mod lines;
 mod output;
 mod script;

@@ -26,9 +26,10 @@ pub fn known_keys()
     ensures other { keys_in (codes "4<Q>") ≡ None }
 {}
 
-/// The keys of a text of printable characters are keys of a script; and keys of a script, printed, are read as
-/// themselves.
+/// The keys of a text, printed, are the text, and where its characters are printable they are keys of a script; and
+/// keys of a script, printed, are read as themselves.
 pub fn printed_keys()
     ensures in_range { (text : List ℕ) (keys : List KeyStroke) → IsTrue (list_all is_printable text) → keys_in text ≡ Some keys → IsTrue (list_all is_key_stroke keys) }
+    ensures text { (text : List ℕ) (keys : List KeyStroke) → keys_in text ≡ Some keys → flat_map key_text keys ≡ text }
     ensures read { (keys : List KeyStroke) → IsTrue (list_all is_key_stroke keys) → keys_in (flat_map key_text keys) ≡ Some keys }
 {}

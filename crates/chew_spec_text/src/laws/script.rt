@@ -3,11 +3,11 @@
 ghost use Rattle.std.specs.Prelude.{◌≡◌, ℕ, ◌+◌, ◌<◌, ◌≤◌, List, [], ◌∷◌, ◌++◌, length, take, filter, fold, Ok, Err, IsTrue, flat_map, map, max, codes, replicate, slice_index_or};
 ghost use Rattle.std.specs.List.{count_by, join_with_byte, list_all};
 ghost use Rattle.std.specs.Result.{result_ok};
-ghost use Rattle.chew_spec_text.specs.KeyStroke.{Char, Enter, is_key_stroke};
+ghost use Rattle.chew_spec_text.specs.KeyStroke.{KeyStroke, Char, Enter, is_key_stroke, key_text};
 ghost use Rattle.chew_spec_text.specs.Line.{with_line_feed};
 ghost use Rattle.chew_spec_text.specs.Lines.{Fault, is_line, lines_of, with_return, without_return};
 ghost use Rattle.chew_spec_text.specs.Said.{context_of, is_round, keys_for, says_something};
-ghost use Rattle.chew_spec_text.specs.Script.{Script, ScriptCause, Size, Byte, Form, Context, Key, Rounds, keys_count, script_of};
+ghost use Rattle.chew_spec_text.specs.Script.{Script, ScriptCause, Size, Byte, Form, Context, Key, Keys, Rounds, keys_count, script_of};
 
 /// Known scripts: one line with keys, with and without its line feed or a carriage return; the empty text; the third
 /// context alone; the keys of a context in two lines; two rounds, a comment with a byte that isn't ASCII
@@ -40,6 +40,13 @@ pub fn known_faults()
 pub fn many_rounds()
     ensures most { script_of (join_with_byte 10 (replicate 64 (codes "round"))) ≡ Ok (record { contexts = []; rounds = 64 }) }
     ensures one_more { script_of (join_with_byte 10 (replicate 65 (codes "round"))) ≡ Err (record { line = 65; cause = Rounds }) }
+{}
+
+/// At most 65,536 keys of a script, printed behind `1:`, are read as the keys of the first context; the 65,537th is
+/// refused.
+pub fn printed_keys()
+    ensures read { (keys : List KeyStroke) → IsTrue (list_all is_key_stroke keys) → length keys ≤ 65_536 → script_of (codes "1:" ++ flat_map key_text keys) ≡ Ok (record { contexts = keys ∷ []; rounds = 0 }) }
+    ensures one_more { (keys : List KeyStroke) → IsTrue (list_all is_key_stroke keys) → length keys ≡ 65_537 → script_of (codes "1:" ++ flat_map key_text keys) ≡ Err (record { line = 1; cause = Keys }) }
 {}
 
 /// A script has at most 16 contexts, 65,536 keys and 64 rounds, and each key is one that a script can name.

@@ -8,7 +8,7 @@ use Rattle.chew_spec_text.proofs.Comments.{comment_cut}
 use Rattle.chew_spec_text.proofs.EachLine.{by_parts}
 use Rattle.chew_spec_text.proofs.Limited.{accepted, same_lines, same_counting}
 use Rattle.chew_spec_text.proofs.Lines.{lines_back, returned_back, shorter}
-use Rattle.chew_spec_text.proofs.Printing.{is_some, parts_fields}
+use Rattle.chew_spec_text.proofs.Fields.{is_some, parts_fields}
 use Rattle.chew_spec_text.proofs.Rows.{taken, nothing_said}
 use Rattle.chew_spec_text.proofs.laws.dictionary_text.what_changes_nothing.Goals as goal
 
