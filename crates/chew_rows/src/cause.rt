@@ -1,0 +1,30 @@
+use thiserror::Error;
+
+/// Why a line gives no row, in the order in which it is told.
+#[derive(Clone, Copy, Debug, PartialEq, Eq, Error)]
+pub enum RowCause {
+    #[error("the text is longer than 64 MiB")]
+    Size,
+    #[error("the first field is no phrase of 1 to 11 characters")]
+    Phrase,
+    #[error("the second field is no frequency of at most 99,999,999")]
+    Frequency,
+    #[error("a field behind the frequency is no syllable")]
+    Syllable,
+    #[error("there are not as many syllables as the phrase has characters")]
+    Lengths,
+    #[error("the phrase stands under these syllables in an earlier line")]
+    Twice,
+    #[error("there are more than 250,000 rows")]
+    Rows,
+}
+
+/// Why a text gives no rows.
+#[derive(Clone, Copy, Debug, PartialEq, Eq, Error)]
+pub enum RowsFault {
+    /// The first line that gives no row, counted from 1, and why; the line is 0 where the text is too long.
+    #[error("line {line}: {cause}")]
+    Bad { line: u32, cause: RowCause },
+    #[error("memory was wanting")]
+    NoMemory,
+}

@@ -1,0 +1,69 @@
+ghost use Rattle.std.specs.Prelude.{◌≡◌, ◌<◌, ◌∷◌, ◌==◌, [], not, length, position, IfSome, IfNone};
+ghost use Rattle.std.specs.List.{before_first};
+ghost use Rattle.chew_spec_text.specs.Lines.{without_return};
+ghost use Rattle.chew_rows.specs.Fields.{fields_in, is_separator};
+
+/// The line without the carriage return at its end.
+pub(crate) fn without_return(line: &[u8]) -> &[u8]
+    ensures { result.now ≡ without_return line.now }
+{
+    if line.ends_with(b"\r") {
+        &line[..line.len() - 1]
+    } else {
+        line
+    }
+}
+
+/// What stands before the comment of a line.
+pub(crate) fn before_comment(line: &[u8]) -> &[u8]
+    ensures { result.now ≡ before_first (λ byte. byte == 35) line.now }
+{
+    match comment_place(line) {
+        Some(place) => &line[..place],
+        None => line,
+    }
+}
+
+/// Where the comment of a line begins.
+fn comment_place(line: &[u8]) -> Option<usize>
+    ensures { result ≡ position (λ byte. byte == 35) line.now }
+{
+    line.iter().position(|byte| *byte == b'#')
+}
+
+/// The first field of a text and what follows it; `None` where it has no field.
+pub(crate) fn first_field(text: &[u8]) -> Option<(&[u8], &[u8])>
+    ensures some { IfSome result (λ parts. fields_in text.now ≡ parts.0.now ∷ fields_in parts.1.now) }
+    ensures shorter { IfSome result (λ parts. length parts.1.now < length text.now) }
+    ensures none { IfNone result (fields_in text.now ≡ []) }
+{
+    let text = match field_place(text) {
+        Some(place) => &text[place..],
+        None => return None,
+    };
+    match separator_place(text) {
+        Some(place) => Some((&text[..place], &text[place + 1..])),
+        None => Some((text, &[])),
+    }
+}
+
+/// Where the first field begins.
+fn field_place(text: &[u8]) -> Option<usize>
+    ensures { result ≡ position (λ byte. not (is_separator byte)) text.now }
+{
+    text.iter().position(|byte| !is_separator(*byte))
+}
+
+/// Where the first byte is that parts fields.
+fn separator_place(text: &[u8]) -> Option<usize>
+    ensures { result ≡ position is_separator text.now }
+{
+    text.iter().position(|byte| is_separator(*byte))
+}
+
+/// Whether a byte parts fields.
+fn is_separator(byte: u8) -> bool
+    ensures { result ≡ is_separator byte }
+{
+    byte == b' ' || byte == b'\t'
+}

@@ -1,0 +1,106 @@
+ghost use Rattle.std.specs.Prelude.{◌≡◌, ◌≤◌, Ok, IfOk, IfErr, OnOk, IsTrue, length};
+ghost use Rattle.chew_spec_syllable.specs.Row.{no_pair_twice};
+ghost use Rattle.chew_spec_text.specs.DictionaryText.{dictionary_rows, fields_of, with_fields, with_row};
+ghost use Rattle.chew_spec_text.specs.Lines.{without_return};
+ghost use Rattle.chew_rows.specs.Pairs.{HasPairsOf};
+ghost use Rattle.chew_rows.specs.Told.{IsFaultOf, IsFaultOfLine};
+
+use crate::cause::{RowCause, RowsFault};
+use crate::fields::{before_comment, first_field, without_return};
+use crate::line::row_of;
+use crate::pair::Pair;
+use chew_syllable::KeyRow;
+use std::alloc::Global;
+use std::collections::BTreeSet;
+
+/// The most bytes of a text, 64 MiB.
+const TEXT_LIMIT: usize = 67_108_864;
+
+/// The most rows of a text.
+const ROWS_LIMIT: usize = 250_000;
+
+/// The rows of a text in the order of its lines, each with time 0.
+pub fn read_rows(alloc: Global, text: &[u8]) -> Result<Vec<KeyRow>, RowsFault>
+    ensures ok { IfOk result (λ rows. dictionary_rows text.now ≡ Ok rows.items) }
+    ensures distinct { IfOk result (λ rows. IsTrue (no_pair_twice rows.items)) }
+    ensures few { IfOk result (λ rows. length rows.items ≤ 250_000) }
+    ensures bad { IfErr result (λ fault. IsFaultOf (dictionary_rows text.now) fault) }
+{
+    if text.len() > TEXT_LIMIT {
+        return Err(RowsFault::Bad {
+            line: 0,
+            cause: RowCause::Size,
+        });
+    }
+    let mut rows = Vec::new(alloc);
+    let mut pairs = BTreeSet::new(alloc);
+    let mut number: u32 = 0;
+    for line in text.split(|byte| *byte == b'\n') {
+        number += 1;
+        match read_line(&mut rows, &mut pairs, number, line) {
+            Ok(()) => {}
+            Err(fault) => return Err(fault),
+        }
+    }
+    Ok(rows)
+}
+
+/// Appends the row of a line, where it has one.
+fn read_line<'a>(
+    rows: &mut Vec<KeyRow>,
+    pairs: &mut BTreeSet<Pair<'a>>,
+    number: u32,
+    line: &'a [u8],
+) -> Result<(), RowsFault>
+    requires pairs { HasPairsOf rows.old.items pairs.old }
+    ensures ok { OnOk result (with_fields rows.old.items (fields_of (without_return line.now)) ≡ Ok rows.new.items) }
+    ensures pairs { OnOk result (HasPairsOf rows.new.items pairs.new) }
+    ensures bad { IfErr result (λ fault. IsFaultOfLine number (with_fields rows.old.items (fields_of (without_return line.now))) fault) }
+{
+    match first_field(before_comment(without_return(line))) {
+        Some((phrase, rest)) => match row_of(phrase, rest) {
+            Ok(row) => add_row(rows, pairs, number, row, phrase),
+            Err(cause) => Err(RowsFault::Bad {
+                line: number,
+                cause,
+            }),
+        },
+        None => Ok(()),
+    }
+}
+
+/// Appends a row, whose phrase is lent besides.
+fn add_row<'a>(
+    rows: &mut Vec<KeyRow>,
+    pairs: &mut BTreeSet<Pair<'a>>,
+    number: u32,
+    row: KeyRow,
+    phrase: &'a [u8],
+) -> Result<(), RowsFault>
+    requires pairs { HasPairsOf rows.old.items pairs.old }
+    requires phrase { row.phrase ≡ phrase.now }
+    ensures ok { OnOk result (with_row rows.old.items (Ok row) ≡ Ok rows.new.items) }
+    ensures pairs { OnOk result (HasPairsOf rows.new.items pairs.new) }
+    ensures bad { IfErr result (λ fault. IsFaultOfLine number (with_row rows.old.items (Ok row)) fault) }
+{
+    let added = match pairs.insert(Pair::of(&row.key, phrase)) {
+        Ok(added) => added,
+        Err(_) => return Err(RowsFault::NoMemory),
+    };
+    if !added {
+        return Err(RowsFault::Bad {
+            line: number,
+            cause: RowCause::Twice,
+        });
+    }
+    if rows.len() >= ROWS_LIMIT {
+        return Err(RowsFault::Bad {
+            line: number,
+            cause: RowCause::Rows,
+        });
+    }
+    match rows.push(row) {
+        Ok(()) => Ok(()),
+        Err(_) => Err(RowsFault::NoMemory),
+    }
+}
