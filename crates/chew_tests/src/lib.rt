@@ -2,6 +2,10 @@
 #![tactic(auto)]
 
 #[cfg(test)]
+mod editor;
+#[cfg(test)]
 mod faults;
 #[cfg(test)]
 mod first_path;
+#[cfg(test)]
+mod five_rows;
