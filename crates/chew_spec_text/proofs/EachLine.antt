@@ -1,9 +1,8 @@
 -- What holds where lines are taken one after another.
 use Rattle.std.proofs.Common.{◌≡◌, ℕ, zero, suc, ◌+◌, ◌<◌, ◌≤◌, Bool, false, List, [], ◌∷◌, ◌++◌, length, map, take, Result, Ok, Err, refl, ap, ◌∙◌, subst, arith}
 use Rattle.std.specs.List.{filter, fold}
-use Rattle.std.specs.Result.{result_ok}
 use Rattle.std.proofs.lemmas.Bool.{cond_both}
-use Rattle.chew_spec_text.specs.Lines.{Fault, go_on, each_line}
+use Rattle.chew_spec_text.specs.Lines.{Fault, but_for_line, go_on, each_line}
 
 -- a value went on from an earlier one
 went_on : {V C W : Type 0} (n : ℕ) (next : V → Result W (Fault C)) (r : Result V C) (w : W) → go_on n next r ≡ Ok w
@@ -99,20 +98,20 @@ same_fault taken n (suc count) v f (line ∷ lines) (first ∷ rest) e s h =
 
 -- the numbers of the lines don't matter to what they make
 alike : {V C W : Type 0} (n m : ℕ) (next other : V → Result W (Fault C)) (r : Result V C)
-    → ((u : V) → result_ok (next u) ≡ result_ok (other u)) → result_ok (go_on n next r) ≡ result_ok (go_on m other r)
+    → ((u : V) → but_for_line (next u) ≡ but_for_line (other u)) → but_for_line (go_on n next r) ≡ but_for_line (go_on m other r)
 alike n m next other (Ok u) p = p u
 alike n m next other (Err cause) p = refl
 
 -- lines that change nothing may be left out
 pub left_out : {V C : Type 0} (counts : List ℕ → Bool) (taken : V → List ℕ → Result V C)
     → ((v : V) (line : List ℕ) → counts line ≡ false → taken v line ≡ Ok v)
-    → (n m : ℕ) (v : V) (lines : List (List ℕ)) → result_ok (each_line taken n v lines) ≡ result_ok (each_line taken m v (filter counts lines))
+    → (n m : ℕ) (v : V) (lines : List (List ℕ)) → but_for_line (each_line taken n v lines) ≡ but_for_line (each_line taken m v (filter counts lines))
 left_out counts taken none n m v [] = refl
 left_out counts taken none n m v (line ∷ lines) =
     cond_both (counts line) (line ∷ filter counts lines) (filter counts lines)
-    (λ left. result_ok (each_line taken n v (line ∷ lines)) ≡ result_ok (each_line taken m v left))
+    (λ left. but_for_line (each_line taken n v (line ∷ lines)) ≡ but_for_line (each_line taken m v left))
     (λ _. alike n m _ _ (taken v line) (λ u. left_out counts taken none (suc n) (suc m) u lines))
-    (λ e. ap (λ r. result_ok (go_on n (λ next. each_line taken (suc n) next lines) r)) (none v line e) ∙ left_out counts taken none (suc n) m v lines)
+    (λ e. ap (λ r. but_for_line (go_on n (λ next. each_line taken (suc n) next lines) r)) (none v line e) ∙ left_out counts taken none (suc n) m v lines)
 
 -- what is made of a value next
 same_next : {V C W : Type 0} (n : ℕ) (next other : V → Result W (Fault C)) (r : Result V C) → ((u : V) → next u ≡ other u) → go_on n next r ≡ go_on n other r

@@ -1,9 +1,8 @@
 -- What holds of a text whose lines are taken one after another where it isn't too long.
 use Rattle.std.proofs.Common.{◌≡◌, ℕ, suc, ◌+◌, ◌<◌, ◌≤◌, Bool, true, false, cond, leb, List, length, take, Result, Ok, Err, sym, ap, ◌∙◌, arith}
 use Rattle.std.specs.List.{filter}
-use Rattle.std.specs.Result.{result_ok}
 use Rattle.std.proofs.lemmas.Bool.{cond-true, cond-false, le-leb, lt-leb}
-use Rattle.chew_spec_text.specs.Lines.{Fault, each_line, lines_of}
+use Rattle.chew_spec_text.specs.Lines.{Fault, but_for_line, each_line, lines_of}
 use Rattle.chew_spec_text.proofs.EachLine.{within, caused, same_fault, left_out}
 
 -- the fault of a text that is too long
@@ -75,9 +74,9 @@ same_lines limit size taken start text other short too same =
 pub same_counting : {V C : Type 0} (counts : List ℕ → Bool) (limit : ℕ) (size : C) (taken : V → List ℕ → Result V C) (start : V) (text other : List ℕ)
     → ((v : V) (line : List ℕ) → counts line ≡ false → taken v line ≡ Ok v)
     → length text ≤ limit → length other ≤ limit → filter counts (lines_of text) ≡ filter counts (lines_of other)
-    → result_ok (limited limit size taken start text) ≡ result_ok (limited limit size taken start other)
+    → but_for_line (limited limit size taken start text) ≡ but_for_line (limited limit size taken start other)
 same_counting counts limit size taken start text other none short too same =
-    ap result_ok (accepted limit size taken start text short)
+    ap but_for_line (accepted limit size taken start text short)
     ∙ (left_out counts taken none 1 1 start (lines_of text)
-    ∙ (ap (λ lines. result_ok (each_line taken 1 start lines)) same
-    ∙ (sym (left_out counts taken none 1 1 start (lines_of other)) ∙ ap result_ok (sym (accepted limit size taken start other too)))))
+    ∙ (ap (λ lines. but_for_line (each_line taken 1 start lines)) same
+    ∙ (sym (left_out counts taken none 1 1 start (lines_of other)) ∙ ap but_for_line (sym (accepted limit size taken start other too)))))

@@ -70,7 +70,7 @@ keys_short : (keys : List KeyStroke) → list_all is_key_stroke keys ≡ true �
 keys_short [] h = omega arith
 keys_short (key ∷ keys) h =
     let both = and_parts _ _ h in
-    let first : length (key_text key) ≤ 4 = leb-true (length (key_text key)) 4 (and_parts _ _ (key_short key both.0)).1 in
+    let first : length (key_text key) ≤ 4 = leb-true (length (key_text key)) 4 (and_parts (list_all is_printable (key_text key)) (leb (length (key_text key)) 4) (key_short key both.0)).1 in
     let rest : length (flat_map key_text keys) ≤ 4 * length keys = keys_short keys both.1 in
     let e : length (key_text key ++ flat_map key_text keys) ≡ length (key_text key) + length (flat_map key_text keys) = length-append (key_text key) (flat_map key_text keys) in
     omega arith

@@ -23,6 +23,11 @@ pub record Fault (C : Type 0) : Type 0 where
   pub line : ℕ
   pub cause : C
 
+-- the value, or the cause alone
+abbrev pub but_for_line : {V C : Type 0} → Result V (Fault C) → Result V C
+but_for_line (Ok value) = Ok value
+but_for_line (Err fault) = Err fault.cause
+
 -- the value of what a line made, as it goes on; else the fault in this line
 abbrev pub go_on : {V C W : Type 0} → ℕ → (V → Result W (Fault C)) → Result V C → Result W (Fault C)
 go_on line next (Ok value) = next value

@@ -2,27 +2,27 @@
 
 ghost use Rattle.std.specs.Prelude.{◌≡◌, ℕ, ◌<◌, ◌≤◌, ◌&&◌, List, [], ◌∷◌, ◌++◌, length, take, filter, ◌==◌, nat_lt, Ok, Err, IsTrue, flat_map, map, codes};
 ghost use Rattle.std.specs.List.{join_with_byte, list_all};
-ghost use Rattle.std.specs.Result.{result_ok};
+ghost use Rattle.chew_spec_dictionary.specs.FiveRows.{ce4, five_rows, row_at_start};
 ghost use Rattle.chew_spec_syllable.specs.Row.{Row, is_row, no_pair_twice};
 ghost use Rattle.chew_spec_text.specs.DictionaryText.{RowCause, Size, Phrase, Frequency, Syllable, Lengths, Twice, Rows, dictionary_rows, fields_of};
 ghost use Rattle.chew_spec_text.specs.Line.{with_line_feed};
-ghost use Rattle.chew_spec_text.specs.Lines.{Fault, is_line, lines_of, with_return, without_return};
+ghost use Rattle.chew_spec_text.specs.Lines.{Fault, but_for_line, is_line, lines_of, with_return, without_return};
 ghost use Rattle.chew_spec_text.specs.RowText.{rows_text, without_time};
-ghost use Rattle.chew_spec_text.specs.Sample.{bytes_of, sample_lines, sample_rows, new_row};
+ghost use Rattle.chew_spec_text.specs.Sample.{bytes_of, five_lines};
 
 /// The five lines and their rows; the same with a comment before them, with carriage returns, with an empty line and
 /// without the last line feed. A line with tabs, several spaces, a comment behind it, or a frequency with leading
 /// zeros; the empty text.
 pub fn known_rows()
-    ensures five { dictionary_rows (flat_map with_line_feed sample_lines) ≡ Ok sample_rows }
-    ensures comment { dictionary_rows (flat_map with_line_feed (codes "# x" ∷ sample_lines)) ≡ Ok sample_rows }
-    ensures carriage_returns { dictionary_rows (flat_map with_line_feed (map with_return sample_lines)) ≡ Ok sample_rows }
-    ensures empty_line { dictionary_rows (flat_map with_line_feed ([] ∷ sample_lines)) ≡ Ok sample_rows }
-    ensures not_ended { dictionary_rows (join_with_byte 10 sample_lines) ≡ Ok sample_rows }
-    ensures tabs { dictionary_rows (bytes_of "測" ++ (9 ∷ (codes "100" ++ (32 ∷ (9 ∷ bytes_of "ㄘㄜˋ"))))) ≡ Ok (new_row (10268 ∷ []) "測" 100 ∷ []) }
-    ensures spaces { dictionary_rows (bytes_of "  測  100  ㄘㄜˋ # x") ≡ Ok (new_row (10268 ∷ []) "測" 100 ∷ []) }
-    ensures zeros { dictionary_rows (bytes_of "測 000000000007 ㄘㄜˋ") ≡ Ok (new_row (10268 ∷ []) "測" 7 ∷ []) }
-    ensures greatest { dictionary_rows (bytes_of "測 99999999 ㄘㄜˋ") ≡ Ok (new_row (10268 ∷ []) "測" 99_999_999 ∷ []) }
+    ensures five { dictionary_rows (flat_map with_line_feed five_lines) ≡ Ok five_rows }
+    ensures comment { dictionary_rows (flat_map with_line_feed (codes "# x" ∷ five_lines)) ≡ Ok five_rows }
+    ensures carriage_returns { dictionary_rows (flat_map with_line_feed (map with_return five_lines)) ≡ Ok five_rows }
+    ensures empty_line { dictionary_rows (flat_map with_line_feed ([] ∷ five_lines)) ≡ Ok five_rows }
+    ensures not_ended { dictionary_rows (join_with_byte 10 five_lines) ≡ Ok five_rows }
+    ensures tabs { dictionary_rows (bytes_of "測" ++ (9 ∷ (codes "100" ++ (32 ∷ (9 ∷ bytes_of "ㄘㄜˋ"))))) ≡ Ok (row_at_start (ce4 ∷ []) (bytes_of "測") 100 ∷ []) }
+    ensures spaces { dictionary_rows (bytes_of "  測  100  ㄘㄜˋ # x") ≡ Ok (row_at_start (ce4 ∷ []) (bytes_of "測") 100 ∷ []) }
+    ensures zeros { dictionary_rows (bytes_of "測 000000000007 ㄘㄜˋ") ≡ Ok (row_at_start (ce4 ∷ []) (bytes_of "測") 7 ∷ []) }
+    ensures greatest { dictionary_rows (bytes_of "測 99999999 ㄘㄜˋ") ≡ Ok (row_at_start (ce4 ∷ []) (bytes_of "測") 99_999_999 ∷ []) }
     ensures empty { dictionary_rows [] ≡ Ok [] }
 {}
 
@@ -70,5 +70,5 @@ pub fn what_changes_nothing()
     ensures returns { (lines : List (List ℕ)) → IsTrue (list_all is_line lines) → map without_return lines ≡ lines → length (flat_map with_line_feed (map with_return lines)) ≤ 67_108_864 → dictionary_rows (flat_map with_line_feed (map with_return lines)) ≡ dictionary_rows (flat_map with_line_feed lines) }
     ensures comment { (line comment : List ℕ) → fields_of (line ++ (35 ∷ comment)) ≡ fields_of line }
     ensures fields { (text other : List ℕ) → length text ≤ 67_108_864 → length other ≤ 67_108_864 → map fields_of (lines_of text) ≡ map fields_of (lines_of other) → dictionary_rows text ≡ dictionary_rows other }
-    ensures lines { (text other : List ℕ) → length text ≤ 67_108_864 → length other ≤ 67_108_864 → filter (λ line. nat_lt 0 (length (fields_of line))) (lines_of text) ≡ filter (λ line. nat_lt 0 (length (fields_of line))) (lines_of other) → result_ok (dictionary_rows text) ≡ result_ok (dictionary_rows other) }
+    ensures lines { (text other : List ℕ) → length text ≤ 67_108_864 → length other ≤ 67_108_864 → filter (λ line. nat_lt 0 (length (fields_of line))) (lines_of text) ≡ filter (λ line. nat_lt 0 (length (fields_of line))) (lines_of other) → but_for_line (dictionary_rows text) ≡ but_for_line (dictionary_rows other) }
 {}

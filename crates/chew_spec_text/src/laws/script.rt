@@ -2,10 +2,9 @@
 
 ghost use Rattle.std.specs.Prelude.{◌≡◌, ℕ, ◌+◌, ◌<◌, ◌≤◌, List, [], ◌∷◌, ◌++◌, length, take, filter, fold, Ok, Err, IsTrue, flat_map, map, max, codes, replicate, slice_index_or};
 ghost use Rattle.std.specs.List.{count_by, join_with_byte, list_all};
-ghost use Rattle.std.specs.Result.{result_ok};
 ghost use Rattle.chew_spec_text.specs.KeyStroke.{KeyStroke, Char, Enter, is_key_stroke, key_text};
 ghost use Rattle.chew_spec_text.specs.Line.{with_line_feed};
-ghost use Rattle.chew_spec_text.specs.Lines.{Fault, is_line, lines_of, with_return, without_return};
+ghost use Rattle.chew_spec_text.specs.Lines.{Fault, but_for_line, is_line, lines_of, with_return, without_return};
 ghost use Rattle.chew_spec_text.specs.Said.{context_of, is_round, keys_for, says_something};
 ghost use Rattle.chew_spec_text.specs.Script.{Script, ScriptCause, Size, Byte, Form, Context, Key, Keys, Rounds, keys_count, script_of};
 
@@ -79,5 +78,5 @@ pub fn lines_of_faults()
 /// faulty line.
 pub fn what_changes_nothing()
     ensures returns { (lines : List (List ℕ)) → IsTrue (list_all is_line lines) → map without_return lines ≡ lines → length (flat_map with_line_feed (map with_return lines)) ≤ 1_048_576 → script_of (flat_map with_line_feed (map with_return lines)) ≡ script_of (flat_map with_line_feed lines) }
-    ensures lines { (text other : List ℕ) → length text ≤ 1_048_576 → length other ≤ 1_048_576 → filter says_something (lines_of text) ≡ filter says_something (lines_of other) → result_ok (script_of text) ≡ result_ok (script_of other) }
+    ensures lines { (text other : List ℕ) → length text ≤ 1_048_576 → length other ≤ 1_048_576 → filter says_something (lines_of text) ≡ filter says_something (lines_of other) → but_for_line (script_of text) ≡ but_for_line (script_of other) }
 {}
