@@ -1,7 +1,7 @@
 -- What holds of a text whose lines are taken one after another where it isn't too long.
 use Rattle.std.proofs.Common.{◌≡◌, ℕ, suc, ◌+◌, ◌<◌, ◌≤◌, Bool, true, false, cond, leb, List, length, take, Result, Ok, Err, sym, ap, ◌∙◌, arith}
 use Rattle.std.specs.List.{filter}
-use Rattle.std.proofs.lemmas.Bool.{cond-true, cond-false, le-leb, lt-leb}
+use Rattle.std.proofs.lemmas.Bool.{cond-true, cond-false, le-leb, leb-false, lt-leb}
 use Rattle.chew_spec_text.specs.Lines.{Fault, but_for_line, each_line, lines_of}
 use Rattle.chew_spec_text.proofs.EachLine.{within, caused, same_fault, left_out}
 
@@ -46,12 +46,12 @@ pub whole : {V C : Type 0} (test : Bool) (size : C) (taken : V → List ℕ → 
 whole true size taken start text f h zero_is = let low : 1 ≤ f.line = (within taken 1 start (lines_of text) f h).low in absurd (omega arith)
 whole false size taken start text f h zero_is = let same : f ≡ too_long size = cc in ap (λ g. g.cause) same
 
--- of which alone the size is told
-pub sized : {V C : Type 0} (test : Bool) (size : C) (taken : V → List ℕ → Result V C) (start : V) (text : List ℕ) (f : Fault C)
-    → ((u : V) (line : List ℕ) (cause : C) → taken u line ≡ Err cause → cause ≡ size → ⊥)
-    → let_in test size taken start text ≡ Err f → f.cause ≡ size → f.line ≡ 0
-sized true size taken start text f free h e = absurd (caused (λ cause. cause ≡ size → ⊥) taken free 1 start (lines_of text) f h e)
-sized false size taken start text f free h e = let same : f ≡ too_long size = cc in ap (λ g. g.line) same
+-- the size is told of a text that is too long alone
+pub sized : {V C : Type 0} (test : Bool) (limit : ℕ) (size : C) (taken : V → List ℕ → Result V C) (start : V) (text : List ℕ) (f : Fault C)
+    → leb (length text) limit ≡ test → ((u : V) (line : List ℕ) (cause : C) → taken u line ≡ Err cause → cause ≡ size → ⊥)
+    → let_in test size taken start text ≡ Err f → f.cause ≡ size → limit < length text
+sized true limit size taken start text f t free h e = absurd (caused (λ cause. cause ≡ size → ⊥) taken free 1 start (lines_of text) f h e)
+sized false limit size taken start text f t free h e = leb-false _ _ t
 
 -- what stands behind the faulty line doesn't matter
 pub later : {V C : Type 0} (test : Bool) (limit : ℕ) (size : C) (taken : V → List ℕ → Result V C) (start : V) (text other : List ℕ) (f : Fault C)

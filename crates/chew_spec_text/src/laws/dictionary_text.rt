@@ -54,12 +54,12 @@ pub fn printed_rows()
     ensures one_more { (rows : List Row) (row : Row) → IsTrue (list_all is_row (rows ++ row ∷ [])) → IsTrue (no_pair_twice (rows ++ row ∷ [])) → length rows ≡ 250_000 → dictionary_rows (rows_text (rows ++ row ∷ [])) ≡ Err (record { line = 250_001; cause = Rows }) }
 {}
 
-/// A fault is told of line 0 exactly where the text is too long, else of one of its lines; and what stands behind
-/// that line doesn't matter.
+/// The size is told exactly where the text is too long, of line 0; else a fault is told of one of the lines, and what
+/// stands behind that line doesn't matter.
 pub fn lines_of_faults()
     ensures too_long { (text : List ℕ) → 67_108_864 < length text → dictionary_rows text ≡ Err (record { line = 0; cause = Size }) }
     ensures whole { (text : List ℕ) (fault : Fault RowCause) → dictionary_rows text ≡ Err fault → fault.line ≡ 0 → fault.cause ≡ Size }
-    ensures size { (text : List ℕ) (fault : Fault RowCause) → dictionary_rows text ≡ Err fault → fault.cause ≡ Size → fault.line ≡ 0 }
+    ensures size { (text : List ℕ) (fault : Fault RowCause) → dictionary_rows text ≡ Err fault → fault.cause ≡ Size → 67_108_864 < length text }
     ensures at_most { (text : List ℕ) (fault : Fault RowCause) → dictionary_rows text ≡ Err fault → fault.line ≤ length (lines_of text) }
     ensures later { (text other : List ℕ) (fault : Fault RowCause) → dictionary_rows text ≡ Err fault → 0 < fault.line → length other ≤ 67_108_864 → take fault.line (lines_of other) ≡ take fault.line (lines_of text) → dictionary_rows other ≡ Err fault }
 {}

@@ -64,12 +64,12 @@ pub fn scripts_by_their_lines()
     ensures rounds { (text : List ℕ) (script : Script) → script_of text ≡ Ok script → script.rounds ≡ count_by is_round (lines_of text) }
 {}
 
-/// A fault is told of line 0 exactly where the text is too long, else of one of its lines; and what stands behind
-/// that line doesn't matter.
+/// The size is told exactly where the text is too long, of line 0; else a fault is told of one of the lines, and what
+/// stands behind that line doesn't matter.
 pub fn lines_of_faults()
     ensures too_long { (text : List ℕ) → 1_048_576 < length text → script_of text ≡ Err (record { line = 0; cause = Size }) }
     ensures whole { (text : List ℕ) (fault : Fault ScriptCause) → script_of text ≡ Err fault → fault.line ≡ 0 → fault.cause ≡ Size }
-    ensures size { (text : List ℕ) (fault : Fault ScriptCause) → script_of text ≡ Err fault → fault.cause ≡ Size → fault.line ≡ 0 }
+    ensures size { (text : List ℕ) (fault : Fault ScriptCause) → script_of text ≡ Err fault → fault.cause ≡ Size → 1_048_576 < length text }
     ensures at_most { (text : List ℕ) (fault : Fault ScriptCause) → script_of text ≡ Err fault → fault.line ≤ length (lines_of text) }
     ensures later { (text other : List ℕ) (fault : Fault ScriptCause) → script_of text ≡ Err fault → 0 < fault.line → length other ≤ 1_048_576 → take fault.line (lines_of other) ≡ take fault.line (lines_of text) → script_of other ≡ Err fault }
 {}
