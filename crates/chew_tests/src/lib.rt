@@ -9,3 +9,5 @@ mod faults;
 mod first_path;
 #[cfg(test)]
 mod five_rows;
+#[cfg(test)]
+mod layouts_pinyin;
