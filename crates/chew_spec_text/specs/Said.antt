@@ -9,6 +9,7 @@ abbrev pub keys_in_said : ℕ → Result ScriptLine ScriptCause → List KeyStro
 keys_in_said number (Ok (KeyLine context keys)) = if context == number then keys else []
 keys_in_said number _ = []
 
+-- the same by the line
 abbrev pub keys_for : ℕ → List ℕ → List KeyStroke
 keys_for number line = keys_in_said number (script_line line)
 
@@ -17,6 +18,7 @@ abbrev pub context_in_said : Result ScriptLine ScriptCause → ℕ
 context_in_said (Ok (KeyLine context keys)) = context
 context_in_said _ = 0
 
+-- the same by the line
 abbrev pub context_of : List ℕ → ℕ
 context_of line = context_in_said (script_line line)
 
@@ -25,6 +27,7 @@ abbrev pub is_round_said : Result ScriptLine ScriptCause → Bool
 is_round_said (Ok Round) = true
 is_round_said _ = false
 
+-- the same by the line
 abbrev pub is_round : List ℕ → Bool
 is_round line = is_round_said (script_line line)
 
