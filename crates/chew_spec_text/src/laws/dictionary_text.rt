@@ -26,8 +26,8 @@ pub fn known_rows()
     ensures empty { dictionary_rows [] ≡ Ok [] }
 {}
 
-/// A text for each cause that a line can have, and its line; the causes come in their order.
-pub fn known_faults()
+/// A dictionary for each cause that a line can have, but for the limits, and its line; the causes come in their order.
+pub fn known_row_faults()
     ensures phrase { dictionary_rows (bytes_of "測 100 ㄘㄜˋ\na abc x") ≡ Err (record { line = 2; cause = Phrase }) }
     ensures frequency { dictionary_rows (bytes_of "測 100 ㄘㄜˋ\n測 abc ㄘㄜˋ\na") ≡ Err (record { line = 2; cause = Frequency }) }
     ensures missing { dictionary_rows (bytes_of "測") ≡ Err (record { line = 1; cause = Frequency }) }
@@ -36,10 +36,12 @@ pub fn known_faults()
     ensures lengths { dictionary_rows (bytes_of "測試 100 ㄘㄜˋ") ≡ Err (record { line = 1; cause = Lengths }) }
     ensures no_syllable { dictionary_rows (bytes_of "測 100") ≡ Err (record { line = 1; cause = Lengths }) }
     ensures twice { dictionary_rows (bytes_of "測 100 ㄘㄜˋ\n測 200 ㄘㄜˋ") ≡ Err (record { line = 2; cause = Twice }) }
+    ensures frequency_first { dictionary_rows (bytes_of "測 abc x") ≡ Err (record { line = 1; cause = Frequency }) }
+    ensures lengths_first { dictionary_rows (bytes_of "測 100 ㄘㄜˋ\n測 100") ≡ Err (record { line = 2; cause = Lengths }) }
     ensures two_returns { dictionary_rows (with_line_feed (with_return (with_return (bytes_of "測 100 ㄘㄜˋ")))) ≡ Err (record { line = 1; cause = Syllable }) }
 {}
 
-/// The rows of a text are rows that were never learnt, no pair stands twice, and they are at most 250,000.
+/// The rows of a dictionary are rows that were never learnt, no pair stands twice, and they are at most 250,000.
 pub fn rows_of_a_text()
     ensures rows { (text : List ℕ) (rows : List Row) → dictionary_rows text ≡ Ok rows → IsTrue (list_all (λ row. is_row row && (row.time == 0)) rows) }
     ensures no_pair_twice { (text : List ℕ) (rows : List Row) → dictionary_rows text ≡ Ok rows → IsTrue (no_pair_twice rows) }
@@ -54,9 +56,9 @@ pub fn printed_rows()
     ensures one_more { (rows : List Row) (row : Row) → IsTrue (list_all is_row (rows ++ row ∷ [])) → IsTrue (no_pair_twice (rows ++ row ∷ [])) → length rows ≡ 250_000 → dictionary_rows (rows_text (rows ++ row ∷ [])) ≡ Err (record { line = 250_001; cause = Rows }) }
 {}
 
-/// The size is told exactly where the text is too long, of line 0; else a fault is told of one of the lines, and what
-/// stands behind that line doesn't matter.
-pub fn lines_of_faults()
+/// The size is told exactly where a dictionary is too long, of line 0; else a fault is told of one of its lines, and
+/// what stands behind that line doesn't matter.
+pub fn lines_of_row_faults()
     ensures too_long { (text : List ℕ) → 67_108_864 < length text → dictionary_rows text ≡ Err (record { line = 0; cause = Size }) }
     ensures whole { (text : List ℕ) (fault : Fault RowCause) → dictionary_rows text ≡ Err fault → fault.line ≡ 0 → fault.cause ≡ Size }
     ensures size { (text : List ℕ) (fault : Fault RowCause) → dictionary_rows text ≡ Err fault → fault.cause ≡ Size → 67_108_864 < length text }
@@ -64,9 +66,9 @@ pub fn lines_of_faults()
     ensures later { (text other : List ℕ) (fault : Fault RowCause) → dictionary_rows text ≡ Err fault → 0 < fault.line → length other ≤ 67_108_864 → take fault.line (lines_of other) ≡ take fault.line (lines_of text) → dictionary_rows other ≡ Err fault }
 {}
 
-/// Carriage returns at the ends of lines change nothing, nor does a comment behind a line: lines say what their fields
-/// say. Lines without fields change nothing but the number of a faulty line.
-pub fn what_changes_nothing()
+/// In a dictionary, carriage returns at the ends of lines change nothing, nor does a comment behind a line: lines say
+/// what their fields say. Lines without fields change nothing but the number of a faulty line.
+pub fn what_changes_no_row()
     ensures returns { (lines : List (List ℕ)) → IsTrue (list_all is_line lines) → map without_return lines ≡ lines → length (flat_map with_line_feed (map with_return lines)) ≤ 67_108_864 → dictionary_rows (flat_map with_line_feed (map with_return lines)) ≡ dictionary_rows (flat_map with_line_feed lines) }
     ensures comment { (line comment : List ℕ) → fields_of (line ++ (35 ∷ comment)) ≡ fields_of line }
     ensures fields { (text other : List ℕ) → length text ≤ 67_108_864 → length other ≤ 67_108_864 → map fields_of (lines_of text) ≡ map fields_of (lines_of other) → dictionary_rows text ≡ dictionary_rows other }

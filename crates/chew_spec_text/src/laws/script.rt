@@ -21,8 +21,8 @@ pub fn known_scripts()
     ensures colon { script_of (codes "1:a:b") ≡ Ok (record { contexts = map Char (codes "a:b") ∷ []; rounds = 0 }) }
 {}
 
-/// A text for each cause that a known line can have, and its line; the causes come in their order.
-pub fn known_faults()
+/// A script for each cause that a line can have, but for the limits, and its line; the causes come in their order.
+pub fn known_script_faults()
     ensures byte { script_of (codes "1:h\n" ++ (codes "17:<Q>" ++ 0x80 ∷ [])) ≡ Err (record { line = 2; cause = Byte }) }
     ensures two_returns { script_of (with_line_feed (with_return (with_return (codes "1:h")))) ≡ Err (record { line = 1; cause = Byte }) }
     ensures no_colon { script_of (codes "1") ≡ Err (record { line = 1; cause = Form }) }
@@ -43,7 +43,7 @@ pub fn many_rounds()
 
 /// At most 65,536 keys of a script, printed behind `1:`, are read as the keys of the first context; the 65,537th is
 /// refused.
-pub fn printed_keys()
+pub fn printed_line_of_keys()
     ensures read { (keys : List KeyStroke) → IsTrue (list_all is_key_stroke keys) → length keys ≤ 65_536 → script_of (codes "1:" ++ flat_map key_text keys) ≡ Ok (record { contexts = keys ∷ []; rounds = 0 }) }
     ensures one_more { (keys : List KeyStroke) → IsTrue (list_all is_key_stroke keys) → length keys ≡ 65_537 → script_of (codes "1:" ++ flat_map key_text keys) ≡ Err (record { line = 1; cause = Keys }) }
 {}
@@ -64,9 +64,9 @@ pub fn scripts_by_their_lines()
     ensures rounds { (text : List ℕ) (script : Script) → script_of text ≡ Ok script → script.rounds ≡ count_by is_round (lines_of text) }
 {}
 
-/// The size is told exactly where the text is too long, of line 0; else a fault is told of one of the lines, and what
+/// The size is told exactly where a script is too long, of line 0; else a fault is told of one of its lines, and what
 /// stands behind that line doesn't matter.
-pub fn lines_of_faults()
+pub fn lines_of_script_faults()
     ensures too_long { (text : List ℕ) → 1_048_576 < length text → script_of text ≡ Err (record { line = 0; cause = Size }) }
     ensures whole { (text : List ℕ) (fault : Fault ScriptCause) → script_of text ≡ Err fault → fault.line ≡ 0 → fault.cause ≡ Size }
     ensures size { (text : List ℕ) (fault : Fault ScriptCause) → script_of text ≡ Err fault → fault.cause ≡ Size → 1_048_576 < length text }
@@ -74,9 +74,9 @@ pub fn lines_of_faults()
     ensures later { (text other : List ℕ) (fault : Fault ScriptCause) → script_of text ≡ Err fault → 0 < fault.line → length other ≤ 1_048_576 → take fault.line (lines_of other) ≡ take fault.line (lines_of text) → script_of other ≡ Err fault }
 {}
 
-/// Carriage returns at the ends of lines change nothing; nor do comments and empty lines, but for the number of a
-/// faulty line.
-pub fn what_changes_nothing()
+/// In a script, carriage returns at the ends of lines change nothing; nor do comments and empty lines, but for the
+/// number of a faulty line.
+pub fn what_changes_no_script()
     ensures returns { (lines : List (List ℕ)) → IsTrue (list_all is_line lines) → map without_return lines ≡ lines → length (flat_map with_line_feed (map with_return lines)) ≤ 1_048_576 → script_of (flat_map with_line_feed (map with_return lines)) ≡ script_of (flat_map with_line_feed lines) }
     ensures lines { (text other : List ℕ) → length text ≤ 1_048_576 → length other ≤ 1_048_576 → filter says_something (lines_of text) ≡ filter says_something (lines_of other) → but_for_line (script_of text) ≡ but_for_line (script_of other) }
 {}

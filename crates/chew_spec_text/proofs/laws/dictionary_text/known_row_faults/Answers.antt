@@ -5,7 +5,7 @@ use Rattle.std.specs.Str.{chars, is_utf8}
 use Rattle.chew_spec_syllable.specs.Phrase.{is_phrase}
 use Rattle.chew_spec_syllable.specs.SyllableText.{syllable_reading}
 use Rattle.chew_spec_text.specs.DictionaryText.{dictionary_rows}
-use Rattle.chew_spec_text.proofs.laws.dictionary_text.known_faults.Goals as goal
+use Rattle.chew_spec_text.proofs.laws.dictionary_text.known_row_faults.Goals as goal
 
 pub returns-clause-phrase : goal.returns-clause-phrase
 unfolding dictionary_rows is_phrase is_utf8 chars syllable_reading encode
@@ -38,6 +38,14 @@ returns-clause-no_syllable c = refl
 pub returns-clause-twice : goal.returns-clause-twice
 unfolding dictionary_rows is_phrase is_utf8 chars syllable_reading encode
 returns-clause-twice c = refl
+
+pub returns-clause-frequency_first : goal.returns-clause-frequency_first
+unfolding dictionary_rows is_phrase is_utf8 chars syllable_reading encode
+returns-clause-frequency_first c = refl
+
+pub returns-clause-lengths_first : goal.returns-clause-lengths_first
+unfolding dictionary_rows is_phrase is_utf8 chars syllable_reading encode
+returns-clause-lengths_first c = refl
 
 pub returns-clause-two_returns : goal.returns-clause-two_returns
 unfolding dictionary_rows is_phrase is_utf8 chars syllable_reading encode

@@ -3,7 +3,7 @@ use Rattle.std.proofs.Common.{refl}
 use Rattle.std.specs.Fmt.{digits}
 use Rattle.chew_spec_text.specs.KeyStroke.{keys_in}
 use Rattle.chew_spec_text.specs.Script.{script_of}
-use Rattle.chew_spec_text.proofs.laws.script.known_faults.Goals as goal
+use Rattle.chew_spec_text.proofs.laws.script.known_script_faults.Goals as goal
 
 pub returns-clause-byte : goal.returns-clause-byte
 unfolding script_of keys_in digits

@@ -10,7 +10,7 @@ use Rattle.chew_spec_text.proofs.Limited.{accepted, same_lines, same_counting}
 use Rattle.chew_spec_text.proofs.Lines.{lines_back, returned_back, shorter}
 use Rattle.chew_spec_text.proofs.Fields.{is_some, parts_fields}
 use Rattle.chew_spec_text.proofs.Rows.{taken, nothing_said}
-use Rattle.chew_spec_text.proofs.laws.dictionary_text.what_changes_nothing.Goals as goal
+use Rattle.chew_spec_text.proofs.laws.dictionary_text.what_changes_no_row.Goals as goal
 
 pub returns : goal.returns
 unfolding dictionary_rows

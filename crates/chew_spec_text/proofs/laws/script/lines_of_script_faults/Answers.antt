@@ -4,7 +4,7 @@ use Rattle.chew_spec_text.specs.Script.{Size, script_limit, script_of}
 use Rattle.chew_spec_text.proofs.Limited.{refused, whole, sized, at_most, later}
 use Rattle.chew_spec_text.proofs.Script.{taken, start}
 use Rattle.chew_spec_text.proofs.ScriptFaults.{never_size}
-use Rattle.chew_spec_text.proofs.laws.script.lines_of_faults.Goals as goal
+use Rattle.chew_spec_text.proofs.laws.script.lines_of_script_faults.Goals as goal
 
 pub returns : goal.returns
 unfolding script_of

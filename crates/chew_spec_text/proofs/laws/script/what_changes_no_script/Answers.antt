@@ -8,7 +8,7 @@ use Rattle.chew_spec_text.specs.Script.{Size, script_limit, script_of}
 use Rattle.chew_spec_text.proofs.Limited.{same_lines, same_counting}
 use Rattle.chew_spec_text.proofs.Lines.{lines_back, returned_back, shorter}
 use Rattle.chew_spec_text.proofs.Script.{taken, start, nothing_said}
-use Rattle.chew_spec_text.proofs.laws.script.what_changes_nothing.Goals as goal
+use Rattle.chew_spec_text.proofs.laws.script.what_changes_no_script.Goals as goal
 
 pub returns : goal.returns
 unfolding script_of
