@@ -8,8 +8,6 @@ mod piece;
 mod rules;
 mod scoring;
 mod segment;
-#[cfg(test)]
-mod tests;
 
 pub use combined::combine;
 pub use piece::{Choice, Piece};

@@ -14,8 +14,6 @@ mod order;
 mod plain;
 mod reply;
 mod row_map;
-#[cfg(test)]
-mod tests;
 
 pub use call::Call;
 pub use entry::Entry;

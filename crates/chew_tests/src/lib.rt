@@ -1,6 +1,8 @@
-//! Tests that cross crates: runs of the program over objects in memory.
+//! Tests that cross crates: runs of the program, the editor, the layouts, phrasing and the dictionary.
 #![tactic(auto)]
 
+#[cfg(test)]
+mod dictionary;
 #[cfg(test)]
 mod editor;
 #[cfg(test)]
@@ -11,3 +13,5 @@ mod first_path;
 mod five_rows;
 #[cfg(test)]
 mod layouts_pinyin;
+#[cfg(test)]
+mod phrasing;

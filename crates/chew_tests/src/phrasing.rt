@@ -1,89 +1,17 @@
-ghost use Rattle.std.specs.Prelude.{◌≡◌, ◌==◌, ◌+◌, ◌<◌, ◌≤◌, [], ℕ, true, IsTrue, length};
+//! Combined rows, scores and best segmentations.
+
+ghost use Rattle.std.specs.Prelude.{◌≡◌, ◌==◌, ◌+◌, ◌<◌, ◌≤◌, [], ℕ, true, IsTrue};
 ghost use Rattle.std.specs.List.{list_all, list_any};
-ghost use Rattle.chew_spec_syllable.specs.Row.{is_pair_of, no_pair_twice};
 ghost use Rattle.chew_spec_phrasing.specs.CanSegment.{CanSegment, cell_at};
 ghost use Rattle.chew_spec_phrasing.specs.Combined.{is_hit_at};
 ghost use Rattle.chew_spec_phrasing.specs.Usable.{phrase_len};
 
-use crate::interval::{Interval, is_hit_at};
-use crate::{Piece, best, combine, score};
+use crate::five_rows::{CE, SHI, are_apart, five, syllable};
+use chew_phrasing::{Piece, best, combine, score};
 use chew_plain::{Hit, RowMap};
-use chew_syllable::{Key, KeyRow, NoMemory, Phrase, Run, Syllable};
+use chew_syllable::{NoMemory, Phrase, Run};
 use std::alloc::Global;
 use std::test::Fail;
-
-/// ㄘㄜˋ
-const CE: u16 = 10268;
-
-/// ㄕˋ
-const SHI: u16 = 8708;
-
-/// The syllable of a code.
-fn syllable(code: u16) -> Syllable {
-    Syllable::from_code(code).unwrap_or_default()
-}
-
-/// A row, where the syllables and the text make one.
-fn row(key: &[Syllable], text: &str, freq: u32) -> Option<KeyRow>
-    requires { freq ≤ 99_999_999 }
-{
-    let key = Key::of(key)?;
-    let Ok(phrase) = Phrase::read(text.as_bytes()) else {
-        return None;
-    };
-    if phrase.characters() != key.list().len() {
-        return None;
-    }
-    Some(KeyRow {
-        key,
-        phrase,
-        freq,
-        time: 0,
-    })
-}
-
-/// The rows of a small system.
-fn five(alloc: Global) -> Result<Vec<KeyRow>, NoMemory> {
-    let ce = syllable(CE);
-    let shi = syllable(SHI);
-    let mut rows = Vec::new(alloc);
-    for row in [
-        row(&[ce], "測", 100),
-        row(&[ce], "策", 200),
-        row(&[shi], "是", 9000),
-        row(&[shi], "試", 300),
-        row(&[ce, shi], "測試", 9318),
-    ] {
-        if let Some(row) = row {
-            rows.push(row)?;
-        }
-    }
-    Ok(rows)
-}
-
-/// Whether a row is of this pair.
-fn is_of(row: &KeyRow, other: &KeyRow) -> bool
-    ensures { result ≡ is_pair_of row.now.key row.now.phrase other.now }
-{
-    other.key.list() == row.key.list() && other.phrase.text() == row.phrase.text()
-}
-
-/// Whether one of the others is of the row's pair.
-fn has_pair(others: &[KeyRow], row: &KeyRow) -> bool
-    ensures { result ≡ list_any (is_pair_of row.now.key row.now.phrase) others.now }
-{
-    others.iter().any(|other| is_of(row, other))
-}
-
-/// Whether no two rows are of one pair.
-fn are_apart(rows: &[KeyRow]) -> bool
-    ensures { result ≡ no_pair_twice rows.now }
-{
-    match rows {
-        [] => true,
-        [row, rest @ ..] => !has_pair(rest, row) && are_apart(rest),
-    }
-}
 
 /// A hit, where the text has so many characters.
 fn hit(start: u8, len: u8, text: &str, freq: u32) -> Option<Hit>
@@ -131,16 +59,19 @@ fn have_lengths(rows: &[Hit]) -> bool
     rows.iter().all(|row| has_length(row))
 }
 
+/// Whether a row is that of this cell alone.
+fn is_single(row: &Hit, cell: usize) -> bool
+    ensures { result ≡ is_hit_at (cell_at cell) row.now }
+{
+    usize::from(row.start) == cell && row.len == 1
+}
+
 /// Whether a cell has a row of its own.
 fn has_single(rows: &[Hit], cell: usize) -> bool
     requires { cell < 39 }
     ensures { result ≡ list_any (is_hit_at (cell_at cell)) rows.now }
 {
-    let at = Interval {
-        start: cell,
-        len: 1,
-    };
-    rows.iter().any(|row| is_hit_at(row, at))
+    rows.iter().any(|row| is_single(row, cell))
 }
 
 /// Whether each cell of a run has a row of its own.

@@ -1,0 +1,58 @@
+//! What a system and the user's dictionary answer over the five rows.
+
+use crate::five_rows::{CE, SHI, are_apart, five, syllable};
+use chew_plain::{Call, Hit, Lexicon, Plain, Reply, RowMap};
+use chew_syllable::{Run, Syllable};
+use std::test::Fail;
+
+/// What a hit tells.
+fn parts(hit: &Hit) -> (u8, u8, &str, u32) {
+    (hit.start, hit.len, hit.phrase.text(), hit.freq)
+}
+
+#[test]
+fn a_system_answers_by_keys(rt: HostRuntime) -> Result<(), Fail> {
+    let rows = five(rt.alloc())?;
+    assert_eq!(rt; rows.len(), 5);
+    assert!(rt; are_apart(&rows));
+    let map = RowMap::of(rows)?;
+    let ce = syllable(CE);
+    let shi = syllable(SHI);
+    assert_eq!(rt; map.count(&[ce]), 2);
+    let first = map.row(&[ce], 0);
+    assert_eq!(rt; (first.phrase, first.freq, first.time), ("測", 100, 0));
+    let second = map.row(&[ce], 1);
+    assert_eq!(rt; (second.phrase, second.freq, second.time), ("策", 200, 0));
+    assert_eq!(rt; map.count(&[ce, shi]), 1);
+    assert_eq!(rt; map.count(&[shi, ce]), 0);
+    assert!(rt; map.has_single(shi));
+    assert!(rt; !map.has_single(Syllable::default()));
+    assert_eq!(rt; map.orig_and_peak(&[ce], "測"), (100, 200));
+    assert_eq!(rt; map.orig_and_peak(&[ce], "試"), (0, 200));
+    assert_eq!(rt; map.orig_and_peak(&[shi, ce], "試"), (0, 0));
+    Ok(())
+}
+
+#[test]
+fn a_look_finds_all_intervals(rt: HostRuntime) -> Result<(), Fail> {
+    let rows = five(rt.alloc())?;
+    assert_eq!(rt; rows.len(), 5);
+    assert!(rt; are_apart(&rows));
+    let mut plain = Plain::of(rows, 7, 100)?;
+    assert_eq!(rt; (plain.life(), plain.pairs()), (7, 5));
+    let ce = syllable(CE);
+    let shi = syllable(SHI);
+    let Some(run) = Run::of(&[ce, shi]) else {
+        return Err(Fail::new("no run"));
+    };
+    let Reply::Rows(hits) = plain.apply(&Call::Look(run))?;
+    let found = hits.list();
+    assert_eq!(rt; found.len(), 5);
+    assert_eq!(rt; parts(&found[0]), (0, 1, "策", 200));
+    assert_eq!(rt; parts(&found[1]), (0, 1, "測", 100));
+    assert_eq!(rt; parts(&found[2]), (0, 2, "測試", 9318));
+    assert_eq!(rt; parts(&found[3]), (1, 1, "是", 9000));
+    assert_eq!(rt; parts(&found[4]), (1, 1, "試", 300));
+    assert_eq!(rt; (plain.life(), plain.pairs()), (7, 5));
+    Ok(())
+}
