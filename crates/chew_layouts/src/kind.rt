@@ -5,4 +5,10 @@ pub enum Kind {
     Standard,
     /// The Eten layout.
     Eten,
+    /// The layout Hsu.
+    Hsu,
+    /// The layout ET26.
+    Et26,
+    /// Hanyu Pinyin.
+    Pinyin,
 }

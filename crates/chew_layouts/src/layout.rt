@@ -5,6 +5,8 @@ ghost use Rattle.chew_layouts.specs.Layouts.{kind_of, layout_of};
 
 use crate::kind::Kind;
 use arrayvec::ArrayString;
+use chew_layout_26::{Letters, Raw26};
+use chew_layout_pinyin::Pinyin;
 use chew_layout_table::{Direct, Table};
 use chew_syllable::Step;
 
@@ -13,6 +15,10 @@ use chew_syllable::Step;
 pub enum Layout {
     /// A layout in which each key is one part of a syllable.
     Direct(Direct),
+    /// A layout in which each key is a letter that may stand for several parts.
+    Raw26(Raw26),
+    /// A layout in which letters spell a syllable.
+    Pinyin(Pinyin),
 }
 
 impl Layout {
@@ -23,6 +29,9 @@ impl Layout {
         match kind {
             Kind::Standard => Layout::Direct(Direct::of(Table::Standard)),
             Kind::Eten => Layout::Direct(Direct::of(Table::Eten)),
+            Kind::Hsu => Layout::Raw26(Raw26::of(Letters::Hsu)),
+            Kind::Et26 => Layout::Raw26(Raw26::of(Letters::Et26)),
+            Kind::Pinyin => Layout::Pinyin(Pinyin::of()),
         }
     }
 
@@ -34,6 +43,8 @@ impl Layout {
     {
         match self {
             Layout::Direct(direct) => direct.feed(key),
+            Layout::Raw26(raw) => raw.feed(key),
+            Layout::Pinyin(pinyin) => pinyin.feed(key),
         }
     }
 
@@ -43,6 +54,8 @@ impl Layout {
     {
         match self {
             Layout::Direct(direct) => direct.clear(),
+            Layout::Raw26(raw) => raw.clear(),
+            Layout::Pinyin(pinyin) => pinyin.clear(),
         }
     }
 
@@ -53,6 +66,8 @@ impl Layout {
     {
         match self {
             Layout::Direct(direct) => direct.holds(),
+            Layout::Raw26(raw) => raw.holds(),
+            Layout::Pinyin(pinyin) => pinyin.holds(),
         }
     }
 
@@ -62,6 +77,8 @@ impl Layout {
     {
         match self {
             Layout::Direct(direct) => direct.shown(),
+            Layout::Raw26(raw) => raw.shown(),
+            Layout::Pinyin(pinyin) => pinyin.shown(),
         }
     }
 
@@ -71,6 +88,8 @@ impl Layout {
     {
         match self {
             Layout::Direct(direct) => Layout::Direct(direct.copy()),
+            Layout::Raw26(raw) => Layout::Raw26(raw.copy()),
+            Layout::Pinyin(pinyin) => Layout::Pinyin(pinyin.copy()),
         }
     }
 }

@@ -12,6 +12,8 @@ mod first_path;
 #[cfg(test)]
 mod five_rows;
 #[cfg(test)]
+mod layouts;
+#[cfg(test)]
 mod layouts_26;
 #[cfg(test)]
 mod layouts_pinyin;
