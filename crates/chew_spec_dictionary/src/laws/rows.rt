@@ -11,8 +11,9 @@ ghost use Rattle.chew_spec_dictionary.specs.System.{row_of, rows_of, rows_under,
 ghost use Rattle.chew_spec_dictionary.specs.Look.{shown_cmp, shown_hit_cmp};
 ghost use Rattle.chew_spec_dictionary.specs.Dictionary.{is_map};
 
-/// The three orders of rows are total, and that in which the hits of an interval are shown. Image order is by the key's length, then its codes, then the
-/// phrase's bytes, so only rows of one pair tie in it.
+/// The three orders of rows are total, and that in which the hits of an interval are shown. Image
+/// order is by the key's length, then its codes, then the phrase's bytes, so only rows of one pair
+/// tie in it.
 pub fn orders_of_rows()
     ensures image { IsTotalOrder image_cmp }
     ensures phrase { IsTotalOrder phrase_cmp }
