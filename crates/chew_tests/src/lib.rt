@@ -1,8 +1,10 @@
-//! Tests that cross crates: runs of the program, the editor, the layouts, phrasing and the dictionary.
+//! Tests that cross crates: runs of the program, the editor, the layouts, phrasing, the dictionary and its text.
 #![tactic(auto)]
 
 #[cfg(test)]
 mod dictionary;
+#[cfg(test)]
+mod dictionary_text;
 #[cfg(test)]
 mod editor;
 #[cfg(test)]
