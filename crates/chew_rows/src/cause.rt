@@ -1,6 +1,6 @@
 use thiserror::Error;
 
-/// Why a line gives no row, in the order in which it is told.
+/// Why a line gives no row, in the order in which it is told; `Size` is told of the text as a whole.
 #[derive(Clone, Copy, Debug, PartialEq, Eq, Error)]
 pub enum RowCause {
     #[error("the text is longer than 64 MiB")]

@@ -19,7 +19,8 @@ const TEXT_LIMIT: usize = 67_108_864;
 /// The most rows of a text.
 const ROWS_LIMIT: usize = 250_000;
 
-/// The rows of a text in the order of its lines, each with time 0.
+/// The rows of a text in the order of its lines, each with time 0. A text of more than 64 MiB is refused, and one with a
+/// line that gives no row: its first such line is told.
 pub fn read_rows(alloc: Global, text: &[u8]) -> Result<Vec<KeyRow>, RowsFault>
     ensures ok { IfOk result (λ rows. dictionary_rows text.now ≡ Ok rows.items) }
     ensures distinct { IfOk result (λ rows. IsTrue (no_pair_twice rows.items)) }
