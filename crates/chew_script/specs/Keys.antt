@@ -1,4 +1,6 @@
--- The definition's key that the code's KeyStroke stands for.
+-- The definition's key that the code's KeyStroke stands for, and lists of keys.
+use Rattle.std.specs.Prelude.{List, map}
+use Rattle.std.specs.Global.{Vec}
 use Rattle.chew_spec_text.specs.KeyStroke as spec
 use Rattle.chew_script.specs.declared.keystroke.KeyStroke.{KeyStroke}
 use Rattle.chew_script.specs.declared.keystroke.KeyStroke.TheVariants.{Char, Enter, Backspace, Delete, Left, Right, Home, End, Up, Down, PageUp, PageDown, Tab, Esc, Add, Forget}
@@ -20,3 +22,10 @@ key_of Tab = spec.Tab
 key_of Esc = spec.Esc
 key_of (Add cells) = spec.Add cells
 key_of (Forget cells) = spec.Forget cells
+
+abbrev pub keys_of : List KeyStroke → List spec.KeyStroke
+keys_of keys = map key_of keys
+
+-- the keys of each context
+abbrev pub lists_of : List (Vec KeyStroke) → List (List spec.KeyStroke)
+lists_of contexts = map (λ keys. keys_of keys.items) contexts

@@ -1,0 +1,7 @@
+pub mod Adding
+pub mod Cuts
+pub mod EachLine
+pub mod KeyLines
+pub mod KeyNames
+pub mod Lists
+pub mod Tables

@@ -1,0 +1,1 @@
+use Rattle.chew_script.proofs.keys.push_keys.Goals as goal

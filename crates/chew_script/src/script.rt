@@ -1,0 +1,74 @@
+ghost use Rattle.std.specs.Prelude.{◌≡◌, ◌≤◌, ℕ, length, Ok, Err, All, IfOk, IsErrOf};
+ghost use Rattle.chew_spec_text.specs.Lines.{without_return};
+ghost use Rattle.chew_spec_text.specs.Script.{script_of};
+ghost use Rattle.chew_script.specs.Faults.{cause_of};
+
+use crate::contexts::Contexts;
+use crate::fault::{LineFault, ScriptCause, ScriptFault};
+use crate::reading::Reading;
+use std::alloc::Global;
+use std::marker::Model;
+
+/// The most bytes of a script, 1 MiB.
+const SCRIPT_LIMIT: usize = 1_048_576;
+
+/// What a script says.
+#[derive(Debug, Drop)]
+pub struct Script {
+    /// The keys of each context, from number 1 to the greatest that the script names.
+    pub contexts: Contexts,
+    /// How many rounds it asks for.
+    pub rounds: u32,
+}
+
+impl Model for Script {
+    ghost use Rattle.chew_spec_text.specs.Script as spec;
+
+    ghost Value = { spec.Script };
+
+    ghost view = { λ script. record { contexts = script.contexts; rounds = script.rounds } };
+}
+
+/// Reads a script, which has at most 1 MiB, 16 contexts, 65,536 keys and 64 rounds; refused for its first line that
+/// can't be taken.
+pub fn read_script(alloc: Global, text: &[u8]) -> Result<Script, ScriptFault>
+    ensures ok { IfOk result (λ script. script_of text.now ≡ Ok script) }
+    ensures bad { (line : ℕ) (cause : ScriptCause) → IsErrOf result (ScriptFault.Bad line cause) → script_of text.now ≡ Err (record { line = line; cause = cause_of cause }) }
+    ensures few_contexts { IfOk result (λ script. length script.contexts ≤ 16) }
+    ensures few_keys { IfOk result (λ script. All (λ keys. length keys ≤ 65_536) script.contexts) }
+    ensures few_rounds { IfOk result (λ script. script.rounds ≤ 64) }
+{
+    if text.len() > SCRIPT_LIMIT {
+        return Err(ScriptFault::Bad {
+            line: 0,
+            cause: ScriptCause::Size,
+        });
+    }
+    let mut reading = Reading::new(alloc);
+    let mut number: u32 = 0;
+    'lines: for line in text.split(|byte| *byte == b'\n') {
+        number += 1;
+        match reading.with_line(without_return(line)) {
+            Ok(more) => reading = more,
+            Err(LineFault::Bad(cause)) => {
+                return Err(ScriptFault::Bad {
+                    line: number,
+                    cause,
+                });
+            }
+            Err(LineFault::NoMemory) => return Err(ScriptFault::NoMemory),
+        }
+    }
+    Ok(reading.script())
+}
+
+/// A line without the carriage return at its end, of which one is dropped.
+fn without_return(line: &[u8]) -> &[u8]
+    ensures { result.now ≡ without_return line.now }
+{
+    if line.ends_with(b"\r") {
+        &line[..line.len() - 1]
+    } else {
+        line
+    }
+}
