@@ -1,5 +1,5 @@
 -- A text that is cut at the first of a byte.
-use Rattle.std.proofs.Common.{◌≡◌, ℕ, suc, ◌+◌, ◌<◌, Bool, true, false, not, cond, List, [], ◌∷◌, ◌++◌, length, take, drop, get_or, position, ◌==◌, ◌||◌, Some, None, refl, ap, sym, subst, ◌∙◌, arith, add-one, drop-cons, All}
+use Rattle.std.proofs.Common.{◌≡◌, ℕ, suc, ◌+◌, ◌<◌, Bool, true, false, cond, List, [], ◌∷◌, ◌++◌, length, take, drop, get_or, position, ◌==◌, Some, None, refl, ap, sym, ◌∙◌, arith, add-one, drop-cons, All}
 use Rattle.std.specs.List.{after_first, before_first, list_any, position_or_len}
 use Rattle.std.proofs.Math.Seq.{take-append_seam, drop-append-add}
 use Rattle.std.proofs.lemmas.Bool.{eqb-true, ltb-false, eq-eqb}

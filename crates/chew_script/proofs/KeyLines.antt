@@ -1,8 +1,8 @@
 -- What a line of keys says.
-use Rattle.std.proofs.Common.{◌≡◌, ℕ, ◌≤◌, ◌<◌, Bool, true, false, List, ◌∷◌, ◌++◌, length, ◌&&◌, nat_le, bytes_eq, decimal, Option, Some, None, IfSome, Err, refl, ap, ◌∙◌, sym, if◌then◌else◌, arith}
+use Rattle.std.proofs.Common.{◌≡◌, ℕ, ◌≤◌, ◌<◌, Bool, true, false, List, ◌∷◌, ◌++◌, length, ◌&&◌, nat_le, bytes_eq, decimal, Option, Some, None, IfSome, Err, refl, ap, ◌∙◌, sym, if◌then◌else◌}
 use Rattle.std.specs.Fmt.{digits}
 use Rattle.std.specs.Char.{is_ascii_digit}
-use Rattle.std.specs.List.{after_first, before_first, list_all, list_any, range_with_len}
+use Rattle.std.specs.List.{list_all, range_with_len}
 use Rattle.std.proofs.lemmas.Bool.{and_parts, cond-true, cond-false, leb-true, le-leb}
 use Rattle.chew_spec_text.specs.DictionaryText.{is_number}
 use Rattle.chew_spec_text.specs.KeyStroke.{keys_in}

@@ -1,7 +1,7 @@
 -- The keys that bytes name, from the front.
 use Rattle.std.proofs.Common.{◌≡◌, ℕ, Bool, true, false, not, cond, List, [], ◌∷◌, ◌++◌, map, find, bytes_eq, ◌==◌, length, get_or, drop, ◌≤◌, if◌then◌else◌, Option, Some, None, refl, ap, sym, subst, ◌∙◌, inl, inr, ◌⊎◌, ⊎_elim, arith}
 use Rattle.std.specs.Fmt.{digits}
-use Rattle.std.specs.List.{list_all, list_any, onto_first, slice_split, before_first, after_first}
+use Rattle.std.specs.List.{list_all, onto_first, slice_split, before_first}
 use Rattle.std.specs.Option.{option_and_then, option_map}
 use Rattle.std.proofs.lemmas.Bool.{and_parts, not-true, cond-true, cond-false, ne_eqb}
 use Rattle.std.proofs.lemmas.List.Elements.{All-cons, All-nil}

@@ -3,6 +3,7 @@
 
 mod contexts;
 mod cut;
+mod entry;
 mod fault;
 mod keys;
 mod keystroke;
@@ -15,6 +16,7 @@ mod script_line;
 mod text;
 
 pub use contexts::Contexts;
+pub use entry::print_entry;
 pub use fault::{ScriptCause, ScriptFault};
 pub use keystroke::KeyStroke;
 pub use line::{Line, print_line};

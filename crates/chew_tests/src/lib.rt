@@ -21,3 +21,5 @@ mod layouts_26;
 mod layouts_pinyin;
 #[cfg(test)]
 mod phrasing;
+#[cfg(test)]
+mod script_text;

@@ -1,8 +1,7 @@
 -- The first byte is a '<', or a character, or there is none.
-use Rattle.std.proofs.Common.{ap, ◌∙◌, arith}
+use Rattle.std.proofs.Common.{arith}
 use Rattle.std.proofs.lemmas.List.{take_rest}
-use Rattle.chew_spec_text.specs.KeyStroke.{keys_in}
-use Rattle.chew_script.proofs.KeyNames.{char_first, name_first, no_keys}
+use Rattle.chew_script.proofs.KeyNames.{char_first, no_keys}
 use Rattle.chew_script.proofs.keys.first_key.Goals as goal
 
 pub returns-in-empty-clause-none : goal.returns-in-empty-clause-none

@@ -1,5 +1,5 @@
 -- The code's table has the definition's names and keys.
-use Rattle.std.proofs.Common.{refl, ap, sym, ◌∙◌, map}
+use Rattle.std.proofs.Common.{ap, sym, ◌∙◌, map}
 use Rattle.std.specs.Fmt.{digits}
 use Rattle.std.specs.Option.{option_map}
 use Rattle.chew_spec_text.specs.KeyStroke.{key_names}

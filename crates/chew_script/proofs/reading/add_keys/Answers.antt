@@ -1,8 +1,8 @@
 -- The keys are appended to those of the context.
-use Rattle.std.proofs.Common.{◌+◌, ◌-◌, ◌≡◌, ◌<◌, ◌≤◌, ap, ◌∙◌, arith, length, set}
+use Rattle.std.proofs.Common.{◌-◌, ◌≡◌, ◌<◌, ◌≤◌, ap, ◌∙◌, arith, length, set}
 use Rattle.std.proofs.lemmas.List.{length-map}
 use Rattle.chew_spec_text.specs.KeyStroke.{keys_in}
-use Rattle.chew_script.specs.Keys.{key_of, keys_of, lists_of}
+use Rattle.chew_script.specs.Keys.{keys_of, lists_of}
 use Rattle.chew_script.proofs.Adding.{added_there, grown}
 use Rattle.chew_script.proofs.Lists.{list_at, list_set}
 use Rattle.chew_script.proofs.reading.add_keys.Goals as goal

@@ -1,5 +1,5 @@
 -- Each line that comes is the next of the text.
-use Rattle.std.proofs.Common.{◌≡◌, ◌+◌, ◌≤◌, ◌==◌, ℕ, List, ap, sym, ◌∙◌, arith, rules, tests, Ok, Err, length-append}
+use Rattle.std.proofs.Common.{◌≡◌, ◌+◌, ◌==◌, ℕ, ap, sym, ◌∙◌, arith, rules, tests, Ok, Err, length-append}
 use Rattle.std.proofs.lemmas.Iterator.Consumers.{YieldsList-end, YieldsList-so_far, YieldsList-turn}
 use Rattle.std.proofs.lemmas.Iterator.Splits.{YieldsList-from_slice_split}
 use Rattle.chew_spec_text.specs.Script as spec

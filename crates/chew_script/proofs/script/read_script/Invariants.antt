@@ -1,5 +1,5 @@
 -- The lines so far make this script.
-use Rattle.std.proofs.Common.{◌≡◌, ◌≤◌, length, Ok}
+use Rattle.std.proofs.Common.{◌≡◌, length, Ok}
 use Rattle.chew_script.proofs.EachLine.{came, no_lines, told}
 use Rattle.chew_script.proofs.script.read_script.Given as goal
 
