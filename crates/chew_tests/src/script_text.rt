@@ -153,7 +153,8 @@ fn each_front_of_a_small_script(rt: HostRuntime) {
 #[test]
 fn keys_of_lines(rt: HostRuntime) {
     let alloc = rt.alloc();
-    let named = b"1:<E><B><D><L><R><H><Z><U><V><P><N><T><X><lt>\n2: ~>\n2:<C2><C3><C4><C5><C6><C7><C8><C9>\n4:<F1><F2><F3><F4><F5><F6><F7><F8><F9>\n1:>";
+    let named =
+        b"1:<E><B><D><L><R><H><Z><U><V><P><N><T><X><lt>\n2: ~>\n2:<C2><C3><C4><C5><C6><C7><C8><C9>\n4:<F1><F2><F3><F4><F5><F6><F7><F8><F9>\n1:>";
     let first = [
         Enter,
         Backspace,
