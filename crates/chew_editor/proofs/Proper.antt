@@ -1,5 +1,5 @@
 -- Hits of the code are proper.
-use Rattle.std.specs.Prelude.{◌≡◌, ◌+◌, Bool, true, ◌&&◌, All, List, [], ◌∷◌, length, chars, nat_le, ◌==◌}
+use Rattle.std.specs.Prelude.{◌≡◌, ◌+◌, true, ◌&&◌, List, [], ◌∷◌, length, chars, nat_le, ◌==◌}
 use Rattle.std.specs.List.{list_all}
 use Rattle.std.proofs.Common.{eqb-true}
 use Rattle.std.proofs.lemmas.Bool.{and_parts}

@@ -38,8 +38,8 @@ impl Settings {
         }
     }
 
-    /// The same settings once more.
-    pub(crate) fn copy(&self) -> Settings
+    /// The same settings once more. It takes no memory.
+    pub fn copy(&self) -> Settings
         ensures { result ≡ self.now }
     {
         Settings {
