@@ -11,6 +11,10 @@ use std::test::Fail;
 /// 測, 策, 是, 試 and 測試.
 const FIVE_ROWS: &str = "測 100 ㄘㄜˋ\n策 200 ㄘㄜˋ\n是 9000 ㄕˋ\n試 300 ㄕˋ\n測試 9318 ㄘㄜˋ ㄕˋ\n";
 
+/// What `hk4g4<E>` prints over them.
+const TWO_SYLLABLES: &str =
+    "context 1\n\t0\tㄘ\t\t\t\n\t0\tㄘㄜ\t\t\t\n策\t2\t\t\t\t\n策\t2\tㄕ\t\t\t\n測試\t4\t\t\t\t\n\t0\t\t測試\t\t\n";
+
 const WORDS: [&str; 4] = ["run", "system", "script", "folder"];
 
 /// A run over these texts, and the sink that it wrote to.
@@ -22,7 +26,7 @@ fn ran(alloc: Global, system: &str, script: &str) -> Result<(Done, MemSink), All
     Ok((done, sink))
 }
 
-/// The run ends with this status, this output and this many handled keys of the context 1, none where there is none.
+/// The run ends with this status, this output and these numbers of handled keys, one for each context.
 fn ends(rt: &impl Abort, run: &(Done, MemSink), status: u8, output: &str, handled: &[u32]) {
     assert_eq!(rt; run.0.status, status);
     assert_eq!(rt; run.1.bytes(), output.as_bytes());
@@ -45,13 +49,7 @@ fn looks(rt: &impl Abort, entry: &Entry, who: u32, codes: &[u16]) {
 #[test]
 fn two_syllables_and_enter(rt: HostRuntime) -> Result<(), Fail> {
     let run = ran(rt.alloc(), FIVE_ROWS, "1:hk4g4<E>\n")?;
-    ends(
-        &rt,
-        &run,
-        0,
-        "context 1\n\t0\tㄘ\t\t\t\n\t0\tㄘㄜ\t\t\t\n策\t2\t\t\t\t\n策\t2\tㄕ\t\t\t\n測試\t4\t\t\t\t\n\t0\t\t測試\t\t\n",
-        &[6],
-    );
+    ends(&rt, &run, 0, TWO_SYLLABLES, &[6]);
     assert_eq!(rt; run.0.journal.len(), 2);
     looks(&rt, &run.0.journal[0], 1, &[10268]);
     looks(&rt, &run.0.journal[1], 1, &[10268, 8708]);
@@ -83,8 +81,51 @@ fn the_eleventh_syllable_is_a_bell(rt: HostRuntime) -> Result<(), Fail> {
 #[test]
 fn a_comment_is_no_row(rt: HostRuntime) -> Result<(), Fail> {
     let run = ran(rt.alloc(), "# x\n策 200 ㄘㄜˋ\n", "1:hk4\n")?;
-    ends(&rt, &run, 5, "input\n", &[]);
+    ends(
+        &rt,
+        &run,
+        0,
+        "context 1\n\t0\tㄘ\t\t\t\n\t0\tㄘㄜ\t\t\t\n策\t2\t\t\t\t\n",
+        &[3],
+    );
+    Ok(())
+}
+
+#[test]
+fn a_syllable_without_a_character_is_a_bell(rt: HostRuntime) -> Result<(), Fail> {
+    let run = ran(rt.alloc(), FIVE_ROWS, "1:18 \n")?;
+    ends(
+        &rt,
+        &run,
+        0,
+        "context 1\n\t0\tㄅ\t\t\t\n\t0\tㄅㄚ\t\t\t\n\t0\t\t\t\tbell\n",
+        &[3],
+    );
     assert_eq!(rt; run.0.journal.len(), 0);
+    Ok(())
+}
+
+#[test]
+fn backspace_erases_in_the_layout(rt: HostRuntime) -> Result<(), Fail> {
+    let run = ran(rt.alloc(), FIVE_ROWS, "1:hk<B>\n")?;
+    ends(
+        &rt,
+        &run,
+        0,
+        "context 1\n\t0\tㄘ\t\t\t\n\t0\tㄘㄜ\t\t\t\n\t0\tㄘ\t\t\t\n",
+        &[3],
+    );
+    Ok(())
+}
+
+#[test]
+fn one_byte_a_read_gives_the_same(rt: HostRuntime) -> Result<(), Fail> {
+    let alloc = rt.alloc();
+    let mut system = MemSource::of(FIVE_ROWS.as_bytes().to_vec(alloc)?, 1, Fails::never(alloc));
+    let mut script = MemSource::of(b"1:hk4g4<E>\n".to_vec(alloc)?, 1, Fails::never(alloc));
+    let mut sink = MemSink::of(alloc, Fails::never(alloc));
+    let done = chewing(alloc, &WORDS, &mut system, &mut script, &mut sink);
+    ends(&rt, &(done, sink), 0, TWO_SYLLABLES, &[6]);
     Ok(())
 }
 

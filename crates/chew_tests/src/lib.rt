@@ -2,6 +2,8 @@
 #![tactic(auto)]
 
 #[cfg(test)]
+mod contexts;
+#[cfg(test)]
 mod dictionary;
 #[cfg(test)]
 mod dictionary_text;

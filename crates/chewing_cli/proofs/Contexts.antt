@@ -12,7 +12,8 @@ use Rattle.chew_spec_editor.specs.Program.{IsOfContext}
 use Rattle.chew_spec_editor.specs.Editor.{empty_editor}
 use Rattle.chew_spec_editor.specs.Left.{left_from}
 use Rattle.chew_spec_editor.specs.Talk.{talk_from}
-use Rattle.chew_spec_text.specs.Line.{KeyStroke, Line, line_text}
+use Rattle.chew_spec_text.specs.KeyStroke.{KeyStroke}
+use Rattle.chew_spec_text.specs.Line.{Line, line_text}
 use Rattle.chew_spec_text.specs.Output.{context_text, header, output}
 use Rattle.chew_spec_text.proofs.Contexts.{output_more}
 use Rattle.chewing_cli.specs.Progress.{Handled, IsFresh, Progress, Ran, RanAll, entries_by, printed}
@@ -81,10 +82,10 @@ handles_others ground journal more who keys count lines none handles =
     record {
       within = handles.within;
       each = handles.each;
-      talked = handles.talked ∙ ap (λ (r : List Reply). (talk_from ground.system ground.settings empty_editor (take count keys) r).lines) heard;
+      talked = handles.talked ∙ ap (λ (r : List Reply). (talk_from ground.system ground.settings (empty_editor ground.settings) (take count keys) r).lines) heard;
       unfinished = handles.unfinished;
-      calls = made ∙ handles.calls ∙ ap (λ (r : List Reply). (talk_from ground.system ground.settings empty_editor (take count keys) r).calls ++ handles.unfinished) heard;
-      next = subst (λ (r : List Reply). IsFront handles.unfinished (next_calls ground (left_from ground.system ground.settings empty_editor (take count keys) r).editor (drop count keys)))
+      calls = made ∙ handles.calls ∙ ap (λ (r : List Reply). (talk_from ground.system ground.settings (empty_editor ground.settings) (take count keys) r).calls ++ handles.unfinished) heard;
+      next = subst (λ (r : List Reply). IsFront handles.unfinished (next_calls ground (left_from ground.system ground.settings (empty_editor ground.settings) (take count keys) r).editor (drop count keys)))
           heard handles.next;
     }
 
@@ -212,6 +213,14 @@ ran_all_more ground contexts keys had now counts count all ran =
           );
       silent = λ e. absurd (omega (arith, longer, ap length e));
     }
+
+-- a context of the code has few keys where its keys in the definition are few
+pub few_of : {X : Type 0} (view : X → List KeyStroke) (size : X → ℕ) → ((x : X) → length (view x) ≡ size x) → (xs : List X) (i : ℕ) (x : X) → i < length xs
+    → x ≡ get_or xs i x → All (λ keys. length keys ≤ 65_536) (map view xs) → size x ≤ 65_536
+few_of view size same xs i x within is all =
+    let inside : i < length (map view xs) = rw length-map within in
+    let this : get_or (map view xs) i (view x) ≡ view x = get_or-map view xs i x (view x) within ∙ ap view (sym is) in
+    subst (λ (n : ℕ). n ≤ 65_536) (ap length this ∙ same x) (all i (view x) inside)
 
 -- the same over the contexts of the code, of which so many ran
 module _ {X : Type 0} (ground : Ground) (view : X → List KeyStroke) (xs : List X) (i : ℕ) (had : Progress) (counts : List ℕ) (who : ℕ) where

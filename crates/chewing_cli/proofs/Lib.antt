@@ -1,14 +1,3 @@
-pub mod Choices
-pub mod Digits
-pub mod Duplicates
-pub mod KeyFields
-pub mod KeyNames
-pub mod Lines
-pub mod Pieces
-pub mod RowFields
-pub mod Script
-pub mod Splits
-pub mod System
 pub mod Reading
 pub mod Openings
 pub mod Calls

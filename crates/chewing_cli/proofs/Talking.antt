@@ -14,7 +14,8 @@ use Rattle.chew_spec_editor.specs.Editor.{Settings, Editor, empty_editor}
 use Rattle.chew_spec_editor.specs.Left.{Left, followed, left_from}
 use Rattle.chew_spec_editor.specs.Talk.{Talk, Turn, after_key, handled, silence, talk_from, turn_of}
 use Rattle.chew_spec_editor.proofs.Talks as talks
-use Rattle.chew_spec_text.specs.Line.{KeyStroke, Line, line_text}
+use Rattle.chew_spec_text.specs.KeyStroke.{KeyStroke}
+use Rattle.chew_spec_text.specs.Line.{Line, line_text}
 use Rattle.chewing_cli.specs.Progress.{Handled, IsFresh, Progress, Stops, Talks, Turns, asked, entries_by, heard, printed}
 use Rattle.chewing_cli.proofs.Calls.{asked_joined, asked_none, calls-entries, front-nil, heard_joined, length-heard, own-entries}
 
@@ -37,7 +38,7 @@ left_one system settings editor key replies turn e all =
     ∙ ap (λ (l : List Reply). record { editor = turn.editor; replies = l }) (drop_all (length turn.calls) replies all)
 
 -- no key was handled yet
-pub talks_none : (system : List Row) (settings : Settings) (who : ℕ) (had : Progress) → Talks system settings who [] had had empty_editor
+pub talks_none : (system : List Row) (settings : Settings) (who : ℕ) (had : Progress) → Talks system settings who [] had had (empty_editor settings)
 unfolding talk_from left_from
 talks_none system settings who had = record {
   calls = [];
@@ -50,35 +51,35 @@ talks_none system settings who had = record {
 
 -- further replies change no talk whose keys were all handled
 module _ (system : List Row) (settings : Settings) (keys : List KeyStroke) (heard_by more : List Reply) (calls : List Call) (lines : List Line) (had : Editor)
-    (talked : talk_from system settings empty_editor keys heard_by ≡ record { calls = calls; lines = lines })
-    (left : left_from system settings empty_editor keys heard_by ≡ record { editor = had; replies = [] })
+    (talked : talk_from system settings (empty_editor settings) keys heard_by ≡ record { calls = calls; lines = lines })
+    (left : left_from system settings (empty_editor settings) keys heard_by ≡ record { editor = had; replies = [] })
     (each : length lines ≡ length keys) where
-  all_handled : handled (talk_from system settings empty_editor keys heard_by) ≡ length keys
+  all_handled : handled (talk_from system settings (empty_editor settings) keys heard_by) ≡ length keys
   all_handled = ap (λ (t : Talk). length t.lines) talked ∙ each
 
-  talk_longer : talk_from system settings empty_editor keys (heard_by ++ more) ≡ record { calls = calls; lines = lines }
-  talk_longer = talks.more_replies system settings empty_editor keys heard_by more all_handled ∙ talked
+  talk_longer : talk_from system settings (empty_editor settings) keys (heard_by ++ more) ≡ record { calls = calls; lines = lines }
+  talk_longer = talks.more_replies system settings (empty_editor settings) keys heard_by more all_handled ∙ talked
 
-  left_longer : left_from system settings empty_editor keys (heard_by ++ more) ≡ record { editor = had; replies = more }
+  left_longer : left_from system settings (empty_editor settings) keys (heard_by ++ more) ≡ record { editor = had; replies = more }
   left_longer =
-      talks.left_more system settings empty_editor keys heard_by more all_handled
+      talks.left_more system settings (empty_editor settings) keys heard_by more all_handled
       ∙ ap (λ (l : Left). record { editor = l.editor; replies = l.replies ++ more }) left
 
-  longer_handled : handled (talk_from system settings empty_editor keys (heard_by ++ more)) ≡ length keys
+  longer_handled : handled (talk_from system settings (empty_editor settings) keys (heard_by ++ more)) ≡ length keys
   longer_handled = ap (λ (t : Talk). length t.lines) talk_longer ∙ each
 
   -- one key more
   talk_more : (key : KeyStroke) (turn : Turn) → turn_of system settings had key more ≡ Some turn
-      → talk_from system settings empty_editor (keys ++ (key ∷ [])) (heard_by ++ more) ≡ record { calls = calls ++ turn.calls; lines = lines ++ (turn.line ∷ []) }
+      → talk_from system settings (empty_editor settings) (keys ++ (key ∷ [])) (heard_by ++ more) ≡ record { calls = calls ++ turn.calls; lines = lines ++ (turn.line ∷ []) }
   talk_more key turn e =
-      talks.joined system settings empty_editor keys (key ∷ []) (heard_by ++ more) longer_handled
+      talks.joined system settings (empty_editor settings) keys (key ∷ []) (heard_by ++ more) longer_handled
       ∙ ap₂ (λ (t : Talk) (l : Left). followed t (talk_from system settings l.editor (key ∷ []) l.replies)) talk_longer left_longer
       ∙ ap (followed (record { calls = calls; lines = lines })) (talk_one system settings had key more turn e)
 
   left_more_key : (key : KeyStroke) (turn : Turn) → turn_of system settings had key more ≡ Some turn → length more ≤ length turn.calls
-      → left_from system settings empty_editor (keys ++ (key ∷ [])) (heard_by ++ more) ≡ record { editor = turn.editor; replies = [] }
+      → left_from system settings (empty_editor settings) (keys ++ (key ∷ [])) (heard_by ++ more) ≡ record { editor = turn.editor; replies = [] }
   left_more_key key turn e all =
-      talks.left-joined system settings empty_editor keys (key ∷ []) (heard_by ++ more) longer_handled
+      talks.left-joined system settings (empty_editor settings) keys (key ∷ []) (heard_by ++ more) longer_handled
       ∙ ap (λ (l : Left). left_from system settings l.editor (key ∷ []) l.replies) left_longer
       ∙ left_one system settings had key more turn e all
 
@@ -112,9 +113,9 @@ talks_more system settings who keys key before now next had editor talks turns =
     record {
       calls = talks.calls ++ turns.calls;
       lines = talks.lines ++ (turns.line ∷ []);
-      talked = ap (talk_from system settings empty_editor (keys ++ (key ∷ []))) both
+      talked = ap (talk_from system settings (empty_editor settings) (keys ++ (key ∷ []))) both
           ∙ talk_more system settings keys first second talks.calls talks.lines had talks.talked talks.left talks.each key turn turned;
-      left = ap (left_from system settings empty_editor (keys ++ (key ∷ []))) both
+      left = ap (left_from system settings (empty_editor settings) (keys ++ (key ∷ []))) both
           ∙ left_more_key system settings keys first second talks.calls talks.lines had talks.talked talks.left talks.each key turn turned few;
       each = length-append talks.lines (turns.line ∷ []) ∙ ap (λ (n : ℕ). n + 1) talks.each ∙ sym (length-append keys (key ∷ []));
       made = printed_more who talks.calls turns.calls talks.lines turns.line before now next talks.made turns.made;
@@ -149,8 +150,8 @@ calls_fresh ground who had calls fresh =
 -- what a context handled, where these calls of the next key were made
 handles_of : (ground : Ground) (who : ℕ) (keys : List KeyStroke) (i : ℕ) (before : Progress) (calls unfinished : List Call) (lines : List Line) (had : Editor)
     → IsFresh ground who before
-    → talk_from ground.system ground.settings empty_editor (take i keys) (heard before.point who calls) ≡ record { calls = calls; lines = lines }
-    → left_from ground.system ground.settings empty_editor (take i keys) (heard before.point who calls) ≡ record { editor = had; replies = [] }
+    → talk_from ground.system ground.settings (empty_editor ground.settings) (take i keys) (heard before.point who calls) ≡ record { calls = calls; lines = lines }
+    → left_from ground.system ground.settings (empty_editor ground.settings) (take i keys) (heard before.point who calls) ≡ record { editor = had; replies = [] }
     → length lines ≡ length (take i keys) → i ≤ length keys → IsFront unfinished (next_calls ground had (drop i keys))
     → Handles ground (before.journal ++ entries_by who (calls ++ unfinished)) who keys i lines
 handles_of ground who keys i before calls unfinished lines had fresh talked left each within front =
@@ -158,10 +159,10 @@ handles_of ground who keys i before calls unfinished lines had fresh talked left
     let first : List Reply = heard before.point who calls in
     let all : replies ground.start (before.journal ++ entries_by who (calls ++ unfinished)) who ≡ first ++ more =
     heard_fresh ground who before (calls ++ unfinished) fresh ∙ heard_joined before.point who calls unfinished in
-    let talk : talk_from ground.system ground.settings empty_editor (take i keys) (replies ground.start (before.journal ++ entries_by who (calls ++ unfinished)) who) ≡ record { calls = calls; lines = lines } =
-    ap (talk_from ground.system ground.settings empty_editor (take i keys)) all ∙ talk_longer ground.system ground.settings (take i keys) first more calls lines had talked left each in
-    let leaves : left_from ground.system ground.settings empty_editor (take i keys) (replies ground.start (before.journal ++ entries_by who (calls ++ unfinished)) who) ≡ record { editor = had; replies = more } =
-    ap (left_from ground.system ground.settings empty_editor (take i keys)) all ∙ left_longer ground.system ground.settings (take i keys) first more calls lines had talked left each in
+    let talk : talk_from ground.system ground.settings (empty_editor ground.settings) (take i keys) (replies ground.start (before.journal ++ entries_by who (calls ++ unfinished)) who) ≡ record { calls = calls; lines = lines } =
+    ap (talk_from ground.system ground.settings (empty_editor ground.settings) (take i keys)) all ∙ talk_longer ground.system ground.settings (take i keys) first more calls lines had talked left each in
+    let leaves : left_from ground.system ground.settings (empty_editor ground.settings) (take i keys) (replies ground.start (before.journal ++ entries_by who (calls ++ unfinished)) who) ≡ record { editor = had; replies = more } =
+    ap (left_from ground.system ground.settings (empty_editor ground.settings) (take i keys)) all ∙ left_longer ground.system ground.settings (take i keys) first more calls lines had talked left each in
     record {
       within = within;
       each = each ∙ length-take-le i keys within;
@@ -217,4 +218,4 @@ pub handles_none : (ground : Ground) (who : ℕ) (keys : List KeyStroke) (before
 unfolding talk_from left_from
 handles_none ground who keys before fresh =
     subst (λ (j : List Entry). Handles ground j who keys 0 []) (append-nil before.journal)
-    (handles_of ground who keys 0 before [] [] [] empty_editor fresh refl refl refl (omega arith) (front-nil (next_calls ground empty_editor keys)))
+    (handles_of ground who keys 0 before [] [] [] (empty_editor ground.settings) fresh refl refl refl (omega arith) (front-nil (next_calls ground (empty_editor ground.settings) keys)))

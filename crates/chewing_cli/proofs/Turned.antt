@@ -11,7 +11,8 @@ use Rattle.chew_spec_editor.specs.Finish.{finish}
 use Rattle.chew_spec_editor.specs.Keys.{calls_asked}
 use Rattle.chew_spec_editor.specs.Press.{Pending, Pressed, Done, Ask, press}
 use Rattle.chew_spec_editor.specs.Talk.{turn_after}
-use Rattle.chew_spec_text.specs.Line.{KeyStroke, Line, line_text}
+use Rattle.chew_spec_text.specs.KeyStroke.{KeyStroke}
+use Rattle.chew_spec_text.specs.Line.{Line, line_text}
 use Rattle.chewing_cli.specs.Progress.{Asks, Progress, Stops, Turns, asked, heard, printed}
 use Rattle.chewing_cli.proofs.Calls.{asked_none, front-nil, front-take, length-heard}
 

@@ -1,36 +1,40 @@
 -- What was read of an input and what it gives, and what the inputs of a run give.
-use Rattle.std.specs.Prelude.{◌≡◌, ◌⊎◌, ℕ, List, map, Option, Result, Err}
-use Rattle.std.specs.Option.{option_map}
+use Rattle.std.specs.Prelude.{◌≡◌, ◌⊎◌, ℕ, List, Option, Result, Ok, Err}
 use Rattle.chew_spec_syllable.specs.Row.{Row, image_cmp}
 use Rattle.chew_spec_dictionary.specs.Order.{in_order}
+use Rattle.chew_spec_text.specs.DictionaryText.{RowCause, dictionary_rows}
+use Rattle.chew_spec_text.specs.Lines.{Fault}
 use Rattle.chew_spec_text.specs.Output.{Refusal, NoMemory}
-use Rattle.chew_spec_text.specs.PlainSystem.{plain_system}
 use Rattle.chew_spec_text.specs.Run as spec
 use Rattle.chew_spec_text.specs.Run.{IsReadOf, Texts, Watched, opening, value_or_refusal}
-use Rattle.chewing_cli.specs.Keys.{keys_of}
 use Rattle.chewing_cli.specs.declared.opening.Inputs.{Inputs}
 
 -- what a source had left before a call, and its count of faults before and after
 abbrev pub watched : Option (List ℕ) → ℕ → ℕ → Watched
 watched left before now = record { left = left; faults_before = before; faults_now = now }
 
--- the rows of a text in the plain form, in image order
-abbrev pub system_rows : List ℕ → Option (List Row)
-system_rows text = option_map (in_order image_cmp) (plain_system text)
+-- rows in image order, where there are rows
+abbrev pub in_image_order : {F : Type 0} → Result (List Row) F → Result (List Row) F
+in_image_order (Ok rows) = Ok (in_order image_cmp rows)
+in_image_order (Err fault) = Err fault
+
+-- the rows of a dictionary's text, in image order
+abbrev pub system_rows : List ℕ → Result (List Row) (Fault RowCause)
+system_rows text = in_image_order (dictionary_rows text)
 
 -- the inputs as the definitions see them
 abbrev pub inputs_as : Inputs → spec.Inputs
-inputs_as inputs = record { system = inputs.system; contexts = map (λ keys. keys_of keys.items) inputs.contexts.items }
+inputs_as inputs = record { system = inputs.system; contexts = inputs.script.contexts }
 
 -- the outcome is this, or memory was wanting
 abbrev pub IsOrNoMemory : {X : Type 0} → Result X Refusal → Result X Refusal → Type 0
 IsOrNoMemory wanted outcome = (outcome ≡ Err NoMemory) ⊎ (outcome ≡ wanted)
 
 -- a text was read of the source, and its value is the outcome
-pub record Reads {X : Type 0} (value : List ℕ → Option X) (limit : ℕ) (source : Watched) (outcome : Result X Refusal) : Type 0 where
+pub record Reads {X F : Type 0} (value : List ℕ → Result X F) (refusal : F → Refusal) (limit : ℕ) (source : Watched) (outcome : Result X Refusal) : Type 0 where
   pub text : Option (List ℕ)
   pub read : IsReadOf source limit text
-  pub gives : IsOrNoMemory (value_or_refusal value text) outcome
+  pub gives : IsOrNoMemory (value_or_refusal value refusal text) outcome
 
 -- texts were read of the two sources, and they open the outcome
 pub record Opens (words : List (List ℕ)) (system script : Watched) (outcome : Result spec.Inputs Refusal) : Type 0 where

@@ -3,7 +3,9 @@ use Rattle.std.specs.Prelude.{◌≡◌, ℕ, ◌≤◌, Bool, true, false, List
 use Rattle.chew_spec_syllable.specs.Row.{Row}
 use Rattle.chew_spec_dictionary.specs.Call.{Call, Reply}
 use Rattle.chew_spec_dictionary.specs.History.{Entry, Point, after, own, replies, start_of}
-use Rattle.chew_spec_text.specs.Line.{KeyStroke, Line, line_text}
+use Rattle.chew_spec_layout.specs.Layout.{Standard}
+use Rattle.chew_spec_text.specs.KeyStroke.{KeyStroke}
+use Rattle.chew_spec_text.specs.Line.{Line, line_text}
 use Rattle.chew_spec_text.specs.Output.{context_text, output}
 use Rattle.chew_spec_editor.specs.Context.{Ground, HandleAll, Handles, IsFront}
 use Rattle.chew_spec_editor.specs.Editor.{Settings, Editor, empty_editor}
@@ -25,7 +27,7 @@ pub record Progress : Type 0 where
 abbrev pub ground_of : List Row → Ground
 ground_of system = record {
   system = system;
-  settings = record { buffer = 10 };
+  settings = record { layout = Standard; buffer = 10 };
   start = start_of (record { pairs = []; life = 0; cap = 65_536 });
 }
 
@@ -72,8 +74,8 @@ pub record Stops (system : List Row) (settings : Settings) (who : ℕ) (key : Ke
 pub record Talks (system : List Row) (settings : Settings) (who : ℕ) (keys : List KeyStroke) (before now : Progress) (editor : Editor) : Type 0 where
   pub calls : List Call
   pub lines : List Line
-  pub talked : talk_from system settings empty_editor keys (heard before.point who calls) ≡ record { calls = calls; lines = lines }
-  pub left : left_from system settings empty_editor keys (heard before.point who calls) ≡ record { editor = editor; replies = [] }
+  pub talked : talk_from system settings (empty_editor settings) keys (heard before.point who calls) ≡ record { calls = calls; lines = lines }
+  pub left : left_from system settings (empty_editor settings) keys (heard before.point who calls) ≡ record { editor = editor; replies = [] }
   pub each : length lines ≡ length keys
   pub made : now ≡ printed (flat_map line_text lines) (asked who calls before)
 

@@ -1,13 +1,14 @@
 ghost use Rattle.std.specs.Prelude.{◌≡◌, ◌++◌, ◌≤◌, IfOk, OnErr, length, map};
 ghost use Rattle.chew_spec_text.specs.Output.{header};
 ghost use Rattle.chewing_cli.specs.Done.{progress_of};
-ghost use Rattle.chewing_cli.specs.Keys.{keys_of};
+ghost use Rattle.chew_script.specs.Keys.{keys_of};
 ghost use Rattle.chewing_cli.specs.Progress.{Handled, IsFresh, Ran, ground_of};
 
 use crate::keying::handle_key;
 use crate::work::Work;
-use chew_editor::{Editor, KeyStroke, Settings};
+use chew_editor::{Editor, Settings};
 use chew_plain::RowMap;
+use chew_script::KeyStroke;
 use chew_syllable::NoMemory;
 use std::alloc::Global;
 

@@ -2,14 +2,15 @@ ghost use Rattle.std.specs.Prelude.{◌≡◌, ◌++◌, All, IfOk, OnErr, map, 
 ghost use Rattle.chew_spec_dictionary.specs.System.{has_single};
 ghost use Rattle.chew_spec_editor.specs.Finish.{finish};
 ghost use Rattle.chew_spec_text.specs.Line.{line_text};
-ghost use Rattle.chew_editor.specs.Keys.{key_of};
+ghost use Rattle.chew_script.specs.Keys.{key_of};
 ghost use Rattle.chew_plain.specs.Call.{call_of, reply_of};
 ghost use Rattle.chewing_cli.specs.Done.{progress_of};
 ghost use Rattle.chewing_cli.specs.Progress.{Asks, Stops, Turns, asked, heard, printed};
 
 use crate::work::Work;
-use chew_editor::{Editor, KeyStroke, Line, Pending, Pressed, finish, press, print_line};
+use chew_editor::{Editor, Pending, Pressed, finish, press};
 use chew_plain::{Call, Entry, Reply, RowMap};
+use chew_script::{KeyStroke, Line, print_line};
 use chew_syllable::NoMemory;
 use std::alloc::Global;
 

@@ -1,29 +1,31 @@
-ghost use Rattle.std.specs.Prelude.{◌≡◌, ◌<◌, ◌≤◌, ◌^◌, All, Err, IfOk, false, length, map};
+ghost use Rattle.std.specs.Prelude.{◌≡◌, ◌≤◌, All, Err, IfOk, Some, false, length, map};
 ghost use Rattle.chew_spec_text.specs.Command.{is_run_command};
+ghost use Rattle.chew_spec_text.specs.DictionaryText.{system_limit};
 ghost use Rattle.chew_spec_text.specs.Output as spec;
-ghost use Rattle.chew_spec_text.specs.PlainScript.{plain_script, script_limit};
-ghost use Rattle.chew_spec_text.specs.PlainSystem.{system_limit};
 ghost use Rattle.chew_spec_text.specs.Run.{value_or_refusal};
-ghost use Rattle.chewing_cli.specs.Keys.{keys_of};
+ghost use Rattle.chew_spec_text.specs.Script.{script_limit, script_of};
 ghost use Rattle.chewing_cli.specs.Opens.{IsOrNoMemory, Opens, Reads, inputs_as, system_rows, watched};
 ghost use Rattle.chewing_cli.specs.Refusals.{outcome_of};
 
 use crate::command::is_run;
-use crate::fault::PlainFault;
-use crate::plain_script::{SCRIPT_LIMIT, read_plain_script};
-use crate::plain_system::{SYSTEM_LIMIT, read_plain_system};
 use crate::refusal::Refusal;
-use chew_editor::KeyStroke;
 use chew_outside::{ReadFault, Source, read_up_to};
 use chew_plain::RowMap;
+use chew_rows::{RowsFault, read_rows};
+use chew_script::{Script, ScriptFault, read_script};
 use std::alloc::Global;
+
+/// The most bytes of a system dictionary, 64 MiB.
+const SYSTEM_LIMIT: usize = 67_108_864;
+
+/// The most bytes of a script, 1 MiB.
+const SCRIPT_LIMIT: usize = 1_048_576;
 
 /// What a run works on.
 #[derive(Drop)]
 pub(crate) struct Inputs {
     pub(crate) system: RowMap,
-    /// The keys of each context.
-    pub(crate) contexts: Vec<Vec<KeyStroke>>,
+    pub(crate) script: Script,
 }
 
 /// Reads the inputs: the words come first, then the system, then the script.
@@ -38,8 +40,8 @@ pub(crate) fn open<I: Source, Y: Source>(
         (watched (I.left script.old) (I.faults script.old) (I.faults script.new))
         (outcome_of inputs_as result) }
     ensures words { is_run_command (map (λ word. word.now) words.now) ≡ false → outcome_of inputs_as result ≡ Err spec.WrongWords }
-    ensures contexts { IfOk result (λ inputs. length inputs.contexts.items ≤ 1) }
-    ensures keys { IfOk result (λ inputs. All (λ keys. length keys.items ≤ 65_536) inputs.contexts.items) }
+    ensures few_contexts { IfOk result (λ inputs. length inputs.script.contexts ≤ 16) }
+    ensures few_keys { IfOk result (λ inputs. All (λ keys. length keys ≤ 65_536) inputs.script.contexts) }
 {
     if !is_run(words) {
         return Err(Refusal::WrongWords);
@@ -49,9 +51,9 @@ pub(crate) fn open<I: Source, Y: Source>(
         Err(refusal) => return Err(refusal),
     };
     match open_script(alloc, script) {
-        Ok(contexts) => Ok(Inputs {
+        Ok(script) => Ok(Inputs {
             system: rows,
-            contexts,
+            script,
         }),
         Err(refusal) => Err(refusal),
     }
@@ -59,7 +61,7 @@ pub(crate) fn open<I: Source, Y: Source>(
 
 /// Reads the system.
 fn open_system<Y: Source>(alloc: Global, source: &mut Y) -> Result<RowMap, Refusal>
-    ensures { Reads system_rows system_limit (watched (Y.left source.old) (Y.faults source.old) (Y.faults source.new)) (outcome_of (λ rows. rows) result) }
+    ensures { Reads system_rows spec.WrongSystem system_limit (watched (Y.left source.old) (Y.faults source.old) (Y.faults source.new)) (outcome_of (λ rows. rows) result) }
 {
     match read_up_to(alloc, source, SYSTEM_LIMIT) {
         Ok(text) => system_of(alloc, text.as_slice()),
@@ -70,40 +72,40 @@ fn open_system<Y: Source>(alloc: Global, source: &mut Y) -> Result<RowMap, Refus
 
 /// The rows of a text, in image order.
 fn system_of(alloc: Global, text: &[u8]) -> Result<RowMap, Refusal>
-    ensures { IsOrNoMemory (value_or_refusal system_rows (Some text.now)) (outcome_of (λ rows. rows) result) }
+    ensures { IsOrNoMemory (value_or_refusal system_rows spec.WrongSystem (Some text.now)) (outcome_of (λ rows. rows) result) }
 {
-    match read_plain_system(alloc, text) {
+    match read_rows(alloc, text) {
         Ok(rows) => match RowMap::of(rows) {
             Ok(map) => Ok(map),
             Err(_) => Err(Refusal::NoMemory),
         },
-        Err(PlainFault::NotPlain) => Err(Refusal::WrongInput),
-        Err(PlainFault::NoMemory) => Err(Refusal::NoMemory),
+        Err(RowsFault::Bad { line, cause }) => Err(Refusal::WrongSystem { line, cause }),
+        Err(RowsFault::NoMemory) => Err(Refusal::NoMemory),
     }
 }
 
 /// Reads the script.
-fn open_script<I: Source>(alloc: Global, source: &mut I) -> Result<Vec<Vec<KeyStroke>>, Refusal>
-    ensures reads { Reads plain_script script_limit (watched (I.left source.old) (I.faults source.old) (I.faults source.new)) (outcome_of (λ contexts. map (λ keys. keys_of keys.items) contexts.items) result) }
-    ensures contexts { IfOk result (λ contexts. length contexts.items ≤ 1) }
-    ensures keys { IfOk result (λ contexts. All (λ keys. length keys.items ≤ 65_536) contexts.items) }
+fn open_script<I: Source>(alloc: Global, source: &mut I) -> Result<Script, Refusal>
+    ensures reads { Reads script_of spec.WrongScript script_limit (watched (I.left source.old) (I.faults source.old) (I.faults source.new)) (outcome_of (λ script. script) result) }
+    ensures few_contexts { IfOk result (λ script. length script.contexts ≤ 16) }
+    ensures few_keys { IfOk result (λ script. All (λ keys. length keys ≤ 65_536) script.contexts) }
 {
     match read_up_to(alloc, source, SCRIPT_LIMIT) {
-        Ok(text) => script_of(alloc, text.as_slice()),
+        Ok(text) => script_in(alloc, text.as_slice()),
         Err(ReadFault::Failed) => Err(Refusal::SourceFailed),
         Err(ReadFault::NoMemory) => Err(Refusal::NoMemory),
     }
 }
 
-/// The keys of each context of a text.
-fn script_of(alloc: Global, text: &[u8]) -> Result<Vec<Vec<KeyStroke>>, Refusal>
-    ensures gives { IsOrNoMemory (value_or_refusal plain_script (Some text.now)) (outcome_of (λ contexts. map (λ keys. keys_of keys.items) contexts.items) result) }
-    ensures contexts { IfOk result (λ contexts. length contexts.items ≤ 1) }
-    ensures keys { IfOk result (λ contexts. All (λ keys. length keys.items ≤ 65_536) contexts.items) }
+/// What a text says.
+fn script_in(alloc: Global, text: &[u8]) -> Result<Script, Refusal>
+    ensures gives { IsOrNoMemory (value_or_refusal script_of spec.WrongScript (Some text.now)) (outcome_of (λ script. script) result) }
+    ensures few_contexts { IfOk result (λ script. length script.contexts ≤ 16) }
+    ensures few_keys { IfOk result (λ script. All (λ keys. length keys ≤ 65_536) script.contexts) }
 {
-    match read_plain_script(alloc, text) {
-        Ok(contexts) => Ok(contexts),
-        Err(PlainFault::NotPlain) => Err(Refusal::WrongInput),
-        Err(PlainFault::NoMemory) => Err(Refusal::NoMemory),
+    match read_script(alloc, text) {
+        Ok(script) => Ok(script),
+        Err(ScriptFault::Bad { line, cause }) => Err(Refusal::WrongScript { line, cause }),
+        Err(ScriptFault::NoMemory) => Err(Refusal::NoMemory),
     }
 }

@@ -2,6 +2,7 @@ ghost use Rattle.std.specs.Prelude.{◌≡◌, ◌⊎◌, ◌↔◌, [], false, 
 ghost use Rattle.chew_spec_outside.specs.Faults.{Rose};
 ghost use Rattle.chew_spec_dictionary.specs.History.{start_of};
 ghost use Rattle.chew_spec_editor.specs.Program.{IsRun};
+ghost use Rattle.chew_spec_layout.specs.Layout.{Standard};
 ghost use Rattle.chew_spec_text.specs.Command.{is_run_command};
 ghost use Rattle.chewing_cli.specs.Done.{ended_of};
 
@@ -22,7 +23,7 @@ pub fn chewing<I: Source, Y: Source, O: Sink>(
     script: &mut I,
     sink: &mut O,
 ) -> Done
-    ensures run { IsRun (map (λ word. word.now) words.now) (record { buffer = 10 }) (start_of (record { pairs = []; life = 0; cap = 65_536 }))
+    ensures run { IsRun (map (λ word. word.now) words.now) (record { layout = Standard; buffer = 10 }) (start_of (record { pairs = []; life = 0; cap = 65_536 }))
         (record { left = Y.left system.old; faults_before = Y.faults system.old; faults_now = Y.faults system.new })
         (record { left = I.left script.old; faults_before = I.faults script.old; faults_now = I.faults script.new })
         (record { before = O.taken sink.old; now = O.taken sink.new; faults_before = O.faults sink.old; faults_now = O.faults sink.new })
@@ -30,7 +31,7 @@ pub fn chewing<I: Source, Y: Source, O: Sink>(
     ensures words { (result.status ≡ 2) ↔ (is_run_command (map (λ word. word.now) words.now) ≡ false) }
     ensures source { result.status ≡ 7 → Rose (Y.faults system.old) (Y.faults system.new) ⊎ Rose (I.faults script.old) (I.faults script.new) }
     ensures sink { result.status ≡ 8 → Rose (O.faults sink.old) (O.faults sink.new) }
-    ensures statuses { (result.status ≡ 0) ⊎ ((result.status ≡ 2) ⊎ ((result.status ≡ 5) ⊎ ((result.status ≡ 7) ⊎ ((result.status ≡ 8) ⊎ (result.status ≡ 10))))) }
+    ensures statuses { (result.status ≡ 0) ⊎ ((result.status ≡ 2) ⊎ ((result.status ≡ 4) ⊎ ((result.status ≡ 5) ⊎ ((result.status ≡ 7) ⊎ ((result.status ≡ 8) ⊎ (result.status ≡ 10)))))) }
 {
     match open(alloc, words, system, script) {
         Ok(inputs) => run(alloc, &inputs, sink),

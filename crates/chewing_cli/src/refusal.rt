@@ -1,14 +1,24 @@
-ghost use Rattle.std.specs.Prelude.{◌≡◌};
-ghost use Rattle.chew_spec_text.specs.Output.{refusal_line, refusal_status};
+ghost use Rattle.std.specs.Prelude.{◌≡◌, ◌≤◌, length};
+ghost use Rattle.chew_spec_text.specs.Line.{with_line_feed};
+ghost use Rattle.chew_spec_text.specs.Output.{fault_line, refusal_line, refusal_status, row_cause_word, script_cause_word};
+ghost use Rattle.chew_rows.specs.Told as row;
+ghost use Rattle.chew_script.specs.Faults as script;
 ghost use Rattle.chewing_cli.specs.Refusals.{kind_of};
+
+use arrayvec::ArrayString;
+use chew_rows::RowCause;
+use chew_script::ScriptCause;
+use itoa::Buffer;
 
 /// Why a run is refused before its first key.
 #[derive(Clone, Copy, Debug, PartialEq, Eq)]
 pub(crate) enum Refusal {
     /// The words have no form of a command.
     WrongWords,
-    /// The system or the script is not in its plain form.
-    WrongInput,
+    /// The system has a fault in this line.
+    WrongSystem { line: u32, cause: RowCause },
+    /// The script has a fault in this line.
+    WrongScript { line: u32, cause: ScriptCause },
     /// A source failed.
     SourceFailed,
     /// Memory was wanting.
@@ -22,21 +32,83 @@ impl Refusal {
     {
         match self {
             Refusal::WrongWords => 2,
-            Refusal::WrongInput => 5,
+            Refusal::WrongSystem { .. } => 4,
+            Refusal::WrongScript { .. } => 5,
             Refusal::SourceFailed => 7,
             Refusal::NoMemory => 10,
         }
     }
 
-    /// The one line that is written.
-    pub(crate) fn line(self) -> &'static [u8]
-        ensures { result.now ≡ refusal_line (kind_of self) }
+    /// The one line that is written. It takes no memory.
+    pub(crate) fn line(self) -> ArrayString<32>
+        ensures { result.bytes ≡ refusal_line (kind_of self) }
     {
         match self {
-            Refusal::WrongWords => b"words\n",
-            Refusal::WrongInput => b"input\n",
-            Refusal::SourceFailed => b"source\n",
-            Refusal::NoMemory => b"memory\n",
+            Refusal::WrongWords => word_line("words"),
+            Refusal::WrongSystem { line, cause } => fault_line("system", line, row_word(cause)),
+            Refusal::WrongScript { line, cause } => fault_line("script", line, script_word(cause)),
+            Refusal::SourceFailed => word_line("source"),
+            Refusal::NoMemory => word_line("memory"),
         }
+    }
+}
+
+/// A word alone.
+fn word_line(word: &str) -> ArrayString<32>
+    requires { length word.now ≤ 10 }
+    ensures { result.bytes ≡ with_line_feed word.now }
+{
+    let mut line = ArrayString::new();
+    line.push_str(word);
+    line.push_str("\n");
+    line
+}
+
+/// The name of an input, the number of its line, and the word of a cause.
+fn fault_line(input: &str, number: u32, word: &str) -> ArrayString<32>
+    requires input { length input.now ≤ 6 }
+    requires word { length word.now ≤ 10 }
+    ensures { result.bytes ≡ fault_line input.now number word.now }
+{
+    let mut digits = Buffer::new();
+    let mut line = ArrayString::new();
+    line.push_str(input);
+    line.push_str(" ");
+    line.push_str(digits.format(number));
+    line.push_str(" ");
+    line.push_str(word);
+    line.push_str("\n");
+    line
+}
+
+/// The word of a fault of a dictionary's text.
+fn row_word(cause: RowCause) -> &'static str
+    ensures word { result.now ≡ row_cause_word (row.cause_of cause) }
+    ensures short { length result.now ≤ 10 }
+{
+    match cause {
+        RowCause::Size => "size",
+        RowCause::Phrase => "phrase",
+        RowCause::Frequency => "frequency",
+        RowCause::Syllable => "syllable",
+        RowCause::Lengths => "lengths",
+        RowCause::Twice => "twice",
+        RowCause::Rows => "rows",
+    }
+}
+
+/// The word of a fault of a script's text.
+fn script_word(cause: ScriptCause) -> &'static str
+    ensures word { result.now ≡ script_cause_word (script.cause_of cause) }
+    ensures short { length result.now ≤ 10 }
+{
+    match cause {
+        ScriptCause::Size => "size",
+        ScriptCause::Byte => "byte",
+        ScriptCause::Form => "line",
+        ScriptCause::Context => "context",
+        ScriptCause::Key => "key",
+        ScriptCause::Keys => "keys",
+        ScriptCause::Rounds => "rounds",
     }
 }

@@ -1,6 +1,6 @@
 ghost use Rattle.std.specs.Prelude.{◌≡◌, ◌≤◌, All, [], false, length, map, if◌then◌else◌};
 ghost use Rattle.chewing_cli.specs.Done.{ended_of, progress_of};
-ghost use Rattle.chewing_cli.specs.Keys.{keys_of};
+ghost use Rattle.chew_script.specs.Keys.{lists_of};
 ghost use Rattle.chewing_cli.specs.Opens.{inputs_as};
 ghost use Rattle.chewing_cli.specs.Progress.{RanAll, ground_of};
 ghost use Rattle.chewing_cli.specs.Runs.{Runs};
@@ -12,9 +12,9 @@ use crate::refusal::Refusal;
 use crate::sending::{refuse, send};
 use crate::work::Work;
 use arrayvec::ArrayVec;
-use chew_editor::KeyStroke;
 use chew_outside::Sink;
 use chew_plain::{Plain, RowMap};
+use chew_script::KeyStroke;
 use std::alloc::Global;
 
 /// The most pairs of a user's dictionary.
@@ -22,8 +22,8 @@ const CAP: u32 = 65_536;
 
 /// Handles the keys of all contexts, and writes their lines.
 pub(crate) fn run<O: Sink>(alloc: Global, inputs: &Inputs, sink: &mut O) -> Done
-    requires contexts { length inputs.now.contexts.items ≤ 1 }
-    requires keys { All (λ keys. length keys.items ≤ 65_536) inputs.now.contexts.items }
+    requires few_contexts { length inputs.now.script.contexts ≤ 16 }
+    requires few_keys { All (λ keys. length keys ≤ 65_536) inputs.now.script.contexts }
     ensures { Runs (inputs_as inputs.now) (ground_of inputs.now.system).settings (ground_of inputs.now.system).start
         (record { before = O.taken sink.old; now = O.taken sink.new; faults_before = O.faults sink.old; faults_now = O.faults sink.new }) (ended_of result) }
 {
@@ -36,7 +36,12 @@ pub(crate) fn run<O: Sink>(alloc: Global, inputs: &Inputs, sink: &mut O) -> Done
         },
         Err(_) => return refuse(alloc, Refusal::NoMemory, sink),
     };
-    let handled = run_contexts(alloc, &inputs.system, &mut work, inputs.contexts.as_slice());
+    let handled = run_contexts(
+        alloc,
+        &inputs.system,
+        &mut work,
+        inputs.script.contexts.lists(),
+    );
     if work.refused && work.text.is_empty() {
         return refuse(alloc, Refusal::NoMemory, sink);
     }
@@ -68,10 +73,10 @@ fn run_contexts(
     work: &mut Work,
     contexts: &[Vec<KeyStroke>],
 ) -> ArrayVec<u32, 16>
-    requires contexts { length contexts.now ≤ 16 }
-    requires keys { All (λ keys. length keys.items ≤ 65_536) contexts.now }
+    requires few_contexts { length contexts.now ≤ 16 }
+    requires few_keys { All (λ keys. length keys ≤ 65_536) (lists_of contexts.now) }
     requires begins { progress_of work.old ≡ record { journal = []; point = (ground_of system.now).start; text = []; refused = false } }
-    ensures all { RanAll (ground_of system.now) (map (λ keys. keys_of keys.items) contexts.now) (progress_of work.new) result.items }
+    ensures all { RanAll (ground_of system.now) (lists_of contexts.now) (progress_of work.new) result.items }
     ensures each { length result.items ≡ length contexts.now }
 {
     let mut handled = ArrayVec::new();

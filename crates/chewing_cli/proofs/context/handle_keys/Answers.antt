@@ -4,19 +4,20 @@ use Rattle.std.proofs.lemmas.List.{get_or-map, length-map, take_more}
 use Rattle.std.proofs.lemmas.List.Elements.{All-nil}
 use Rattle.chew_spec_dictionary.specs.System.{has_single}
 use Rattle.chew_spec_editor.specs.Editor.{Configured, Editor, Settings, empty_editor}
-use Rattle.chew_spec_text.specs.Line as spec
-use Rattle.chew_editor.specs.Keys.{key_of}
+use Rattle.chew_spec_text.specs.KeyStroke as spec
+use Rattle.chew_script.specs.Keys.{key_of}
 use Rattle.chewing_cli.specs.Done.{progress_of}
-use Rattle.chewing_cli.specs.Keys.{keys_of}
+use Rattle.chew_script.specs.Keys.{keys_of}
 use Rattle.chewing_cli.specs.Progress.{Handled, Stops, Talks, Turns, ground_of}
 use Rattle.chewing_cli.proofs.Talking.{handled_all, handled_stopped, talks_more, talks_none}
-use Rattle.chew_editor.specs.declared.keystroke.KeyStroke.{KeyStroke}
-use Rattle.chew_editor.specs.declared.keystroke.KeyStroke.TheVariants.{Char}
+use Rattle.chew_script.specs.declared.keystroke.KeyStroke.{KeyStroke}
+use Rattle.chew_script.specs.declared.keystroke.KeyStroke.TheVariants.{Char}
 use Rattle.chewing_cli.proofs.context.handle_keys.Goals as goal
 
 pub loop-key-init : goal.loop-key-init
 loop-key-init c =
-    let empty : c.new-editor.result.editor ≡ empty_editor = ap (λ (e : Configured). e.editor) c.new-editor.ensures in
+    let empty : c.new-editor.result.editor ≡ empty_editor (ground_of c.args.system.now).settings =
+    ap (λ (e : Configured). e.editor) c.new-editor.ensures ∙ ap empty_editor c.standard.ensures in
     record {
       talks = subst (λ (e : Editor). Talks c.args.system.now (ground_of c.args.system.now).settings c.args.who (take 0 (keys_of c.args.keys.now)) (progress_of c.args.work.now) (progress_of c.args.work.now) e)
           (sym empty) (talks_none c.args.system.now (ground_of c.args.system.now).settings c.args.who (progress_of c.args.work.now));

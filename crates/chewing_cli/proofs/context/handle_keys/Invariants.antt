@@ -2,7 +2,7 @@
 use Rattle.std.proofs.Common.{◌≡◌, All, take, true}
 use Rattle.chew_spec_dictionary.specs.System.{has_single}
 use Rattle.chewing_cli.specs.Done.{progress_of}
-use Rattle.chewing_cli.specs.Keys.{keys_of}
+use Rattle.chew_script.specs.Keys.{keys_of}
 use Rattle.chewing_cli.specs.Progress.{Talks, ground_of}
 use Rattle.chewing_cli.proofs.context.handle_keys.Given as goal
 

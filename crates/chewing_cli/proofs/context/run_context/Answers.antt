@@ -1,7 +1,7 @@
 -- The context's keys were handled behind its header, or none was.
 use Rattle.std.proofs.Common.{ℕ, Bool, List, ap, subst, true}
 use Rattle.chewing_cli.specs.Done.{progress_of}
-use Rattle.chewing_cli.specs.Keys.{keys_of}
+use Rattle.chew_script.specs.Keys.{keys_of}
 use Rattle.chewing_cli.specs.Progress.{Handled, Progress, ground_of}
 use Rattle.chewing_cli.proofs.Contexts.{ran_handled, ran_none}
 use Rattle.chewing_cli.proofs.context.run_context.Goals as goal

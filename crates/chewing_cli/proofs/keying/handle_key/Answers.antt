@@ -2,7 +2,7 @@
 use Rattle.std.proofs.Common.{◌≡◌, ap, ◌∙◌, All, List, sym, subst, true}
 use Rattle.chew_spec_dictionary.specs.System.{has_single}
 use Rattle.chew_spec_editor.specs.Press.{Done, Ask, press}
-use Rattle.chew_editor.specs.Keys.{key_of}
+use Rattle.chew_script.specs.Keys.{key_of}
 use Rattle.chew_editor.specs.Pressed.{cells_of, pressed_of}
 use Rattle.chewing_cli.specs.Done.{progress_of}
 use Rattle.chewing_cli.proofs.Turned.{turns_asked, turns_done, stops_within}

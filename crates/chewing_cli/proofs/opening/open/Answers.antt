@@ -1,7 +1,6 @@
 -- The words, the system and the script, in this order.
 use Rattle.std.proofs.Common.{◌≡◌, ◌∙◌, Ok, Err, map, sym, true}
 use Rattle.chew_spec_text.specs.Command.{is_run_command}
-use Rattle.chewing_cli.specs.Keys.{keys_of}
 use Rattle.chewing_cli.specs.Refusals.{kind_of}
 use Rattle.chewing_cli.proofs.Openings.{opens_script, opens_system, opens_words}
 use Rattle.chewing_cli.proofs.opening.open.Goals as goal
@@ -17,7 +16,7 @@ returns-in-Err-clause-opens g c =
 pub returns-in-Ok-open_script-clause-opens : goal.returns-in-Ok-open_script-clause-opens
 returns-in-Ok-open_script-clause-opens g c =
     let formed : is_run_command (map (λ word. word.now) c.args.words.now) ≡ true = sym c.is_run.ensures ∙ c.if-not-is_run.false in
-    opens_script (map (λ word. word.now) c.args.words.now) _ _ c.in-Ok.rows (Ok (map (λ keys. keys_of keys.items) c.in-Ok-open_script.contexts.items)) formed
+    opens_script (map (λ word. word.now) c.args.words.now) _ _ c.in-Ok.rows (Ok c.in-Ok-open_script.script) formed
     c.in-Ok.ensures c.in-Ok-open_script.ensures.reads
 
 pub returns-in-Err-open_script-clause-opens : goal.returns-in-Err-open_script-clause-opens

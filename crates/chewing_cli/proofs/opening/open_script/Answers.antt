@@ -1,8 +1,8 @@
 -- The text that was read is the script's.
-use Rattle.std.proofs.Common.{ℕ, List, Some, map, subst}
-use Rattle.chew_spec_text.specs.PlainScript.{plain_script, script_limit}
+use Rattle.std.proofs.Common.{ℕ, List, Some, subst}
+use Rattle.chew_spec_text.specs.Output.{WrongScript}
 use Rattle.chew_spec_text.specs.Run.{value_or_refusal}
-use Rattle.chewing_cli.specs.Keys.{keys_of}
+use Rattle.chew_spec_text.specs.Script.{Script, script_limit, script_of}
 use Rattle.chewing_cli.specs.Opens.{IsOrNoMemory}
 use Rattle.chewing_cli.specs.Refusals.{outcome_of}
 use Rattle.chewing_cli.proofs.Reading.{reads_refused, reads_text}
@@ -10,10 +10,10 @@ use Rattle.chewing_cli.proofs.opening.open_script.Goals as goal
 
 pub returns-in-Ok-clause-reads : goal.returns-in-Ok-clause-reads
 returns-in-Ok-clause-reads g c =
-    reads_text plain_script script_limit (g.I.Source.left c.args.source.now) (g.I.Source.left c.read_up_to.new.source) (g.I.Source.faults c.args.source.now)
-    (g.I.Source.faults c.read_up_to.new.source) c.in-Ok.text.items (outcome_of (λ contexts. map (λ keys. keys_of keys.items) contexts.items) c.script_of.result) c.in-Ok.ensures.ok
-    (subst (λ (text : List ℕ). IsOrNoMemory (value_or_refusal plain_script (Some text)) (outcome_of (λ contexts. map (λ keys. keys_of keys.items) contexts.items) c.script_of.result))
-    c.as_slice.ensures.value c.script_of.ensures.gives)
+    reads_text script_of WrongScript script_limit (g.I.Source.left c.args.source.now) (g.I.Source.left c.read_up_to.new.source) (g.I.Source.faults c.args.source.now)
+    (g.I.Source.faults c.read_up_to.new.source) c.in-Ok.text.items (outcome_of (λ (script : Script). script) c.script_in.result) c.in-Ok.ensures.ok
+    (subst (λ (text : List ℕ). IsOrNoMemory (value_or_refusal script_of WrongScript (Some text)) (outcome_of (λ (script : Script). script) c.script_in.result))
+    c.as_slice.ensures.value c.script_in.ensures.gives)
 
 pub returns-in-Err-NoMemory-clause-reads : goal.returns-in-Err-NoMemory-clause-reads
-returns-in-Err-NoMemory-clause-reads g c = reads_refused plain_script script_limit _
+returns-in-Err-NoMemory-clause-reads g c = reads_refused script_of WrongScript script_limit _

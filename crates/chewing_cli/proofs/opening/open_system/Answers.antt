@@ -1,7 +1,8 @@
 -- The text that was read is the system's.
 use Rattle.std.proofs.Common.{ℕ, List, Some, subst}
 use Rattle.chew_spec_syllable.specs.Row.{Row}
-use Rattle.chew_spec_text.specs.PlainSystem.{system_limit}
+use Rattle.chew_spec_text.specs.DictionaryText.{system_limit}
+use Rattle.chew_spec_text.specs.Output.{WrongSystem}
 use Rattle.chew_spec_text.specs.Run.{value_or_refusal}
 use Rattle.chewing_cli.specs.Opens.{IsOrNoMemory, system_rows}
 use Rattle.chewing_cli.specs.Refusals.{outcome_of}
@@ -10,9 +11,10 @@ use Rattle.chewing_cli.proofs.opening.open_system.Goals as goal
 
 pub returns-in-Ok : goal.returns-in-Ok
 returns-in-Ok g c =
-    reads_text system_rows system_limit (g.Y.Source.left c.args.source.now) (g.Y.Source.left c.read_up_to.new.source) (g.Y.Source.faults c.args.source.now)
+    reads_text system_rows WrongSystem system_limit (g.Y.Source.left c.args.source.now) (g.Y.Source.left c.read_up_to.new.source) (g.Y.Source.faults c.args.source.now)
     (g.Y.Source.faults c.read_up_to.new.source) c.in-Ok.text.items (outcome_of (λ (rows : List Row). rows) c.system_of.result) c.in-Ok.ensures.ok
-    (subst (λ (text : List ℕ). IsOrNoMemory (value_or_refusal system_rows (Some text)) (outcome_of (λ (rows : List Row). rows) c.system_of.result)) c.as_slice.ensures.value c.system_of.ensures)
+    (subst (λ (text : List ℕ). IsOrNoMemory (value_or_refusal system_rows WrongSystem (Some text)) (outcome_of (λ (rows : List Row). rows) c.system_of.result))
+    c.as_slice.ensures.value c.system_of.ensures)
 
 pub returns-in-Err-NoMemory : goal.returns-in-Err-NoMemory
-returns-in-Err-NoMemory g c = reads_refused system_rows system_limit _
+returns-in-Err-NoMemory g c = reads_refused system_rows WrongSystem system_limit _

@@ -1,7 +1,10 @@
--- The rows of the text, put in a map.
-use Rattle.std.proofs.Common.{inr, sym}
-use Rattle.chewing_cli.proofs.Reading.{map_of_rows}
+-- The rows of the text, put in a map, or its fault.
+use Rattle.std.proofs.Common.{inr, sym, ap, ◌∙◌, Ok}
+use Rattle.chew_spec_text.specs.Output.{WrongSystem}
+use Rattle.chewing_cli.specs.Opens.{in_image_order, system_rows}
+use Rattle.chewing_cli.proofs.Reading.{value_given}
 use Rattle.chewing_cli.proofs.opening.system_of.Goals as goal
 
 pub returns-in-Ok-of : goal.returns-in-Ok-of
-returns-in-Ok-of c = inr (sym (map_of_rows c.args.text.now c.in-Ok.rows.items c.in-Ok-of.map c.in-Ok.ensures.ok c.in-Ok-of.ensures.value))
+returns-in-Ok-of c =
+    inr (sym (value_given system_rows WrongSystem c.args.text.now c.in-Ok-of.map (ap in_image_order c.in-Ok.ensures.ok ∙ ap Ok (sym c.in-Ok-of.ensures.value))))

@@ -1,6 +1,7 @@
 -- A run that was refused before its first key, and one that was not.
 use Rattle.std.proofs.Common.{◌∙◌, Err, [], ap, map, refl, sym}
 use Rattle.chew_spec_dictionary.specs.History.{start_of}
+use Rattle.chew_spec_layout.specs.Layout.{Standard}
 use Rattle.chew_spec_text.specs.Output.{WrongWords, refusal_status}
 use Rattle.chew_spec_text.specs.Run.{Watched}
 use Rattle.chew_plain.specs.Call.{entry_of}
@@ -14,14 +15,14 @@ pub returns-in-Ok-clause-run : goal.returns-in-Ok-clause-run
 returns-in-Ok-clause-run g c =
     let system : Watched = watched (g.Y.Source.left c.args.system.now) (g.Y.Source.faults c.args.system.now) (g.Y.Source.faults c.open.new.system) in
     let script : Watched = watched (g.I.Source.left c.args.script.now) (g.I.Source.faults c.args.script.now) (g.I.Source.faults c.open.new.script) in
-    run_opened (map (λ word. word.now) c.args.words.now) (record { buffer = 10 }) (start_of (record { pairs = []; life = 0; cap = 65_536 })) system script _ (ended_of c.run.result)
+    run_opened (map (λ word. word.now) c.args.words.now) (record { layout = Standard; buffer = 10 }) (start_of (record { pairs = []; life = 0; cap = 65_536 })) system script _ (ended_of c.run.result)
     (inputs_as c.in-Ok.inputs) c.in-Ok.ensures.opens c.run.ensures
 
 pub returns-in-Err-clause-run : goal.returns-in-Err-clause-run
 returns-in-Err-clause-run g c =
     let system : Watched = watched (g.Y.Source.left c.args.system.now) (g.Y.Source.faults c.args.system.now) (g.Y.Source.faults c.open.new.system) in
     let script : Watched = watched (g.I.Source.left c.args.script.now) (g.I.Source.faults c.args.script.now) (g.I.Source.faults c.open.new.script) in
-    run_refused (map (λ word. word.now) c.args.words.now) (record { buffer = 10 }) (start_of (record { pairs = []; life = 0; cap = 65_536 })) system script _ (ended_of c.refuse.result)
+    run_refused (map (λ word. word.now) c.args.words.now) (record { layout = Standard; buffer = 10 }) (start_of (record { pairs = []; life = 0; cap = 65_536 })) system script _ (ended_of c.refuse.result)
     (kind_of c.in-Err.refusal) c.in-Err.ensures.opens c.refuse.ensures.status (ap (map entry_of) c.refuse.ensures.journal) c.refuse.ensures.handled c.refuse.ensures.took
 
 pub returns-in-Err-clause-words : goal.returns-in-Err-clause-words

@@ -1,11 +1,12 @@
 -- How the run ends.
-use Rattle.std.proofs.Common.{◌≡◌, ◌∙◌, ℕ, List, ap, map, subst}
-use Rattle.chew_spec_outside.specs.Sink.{appended}
-use Rattle.chew_spec_editor.specs.Program.{Sunk, Took}
+use Rattle.std.proofs.Common.{ℕ, List, ap, subst}
+use Rattle.chew_spec_editor.specs.Program.{Sunk}
+use Rattle.chew_spec_text.specs.KeyStroke.{KeyStroke}
 use Rattle.chewing_cli.specs.Done.{progress_of}
-use Rattle.chewing_cli.specs.Keys.{keys_of}
 use Rattle.chewing_cli.specs.Opens.{inputs_as}
 use Rattle.chewing_cli.specs.Progress.{Progress, RanAll, ground_of}
+use Rattle.chewing_cli.specs.Sends.{Sends}
+use Rattle.chewing_cli.specs.declared.opening.Inputs.{Inputs}
 use Rattle.chewing_cli.proofs.Ends.{runs_talked}
 use Rattle.chewing_cli.proofs.run.run.Goals as goal
 
@@ -20,9 +21,7 @@ returns g c =
     } in
     runs_talked (inputs_as c.args.inputs.now) (ground_of c.args.inputs.now.system).settings (ground_of c.args.inputs.now.system).start sink now
     c.run_contexts-handled.result.items c.send-taken.result _
-    (subst (λ contexts. RanAll (ground_of c.args.inputs.now.system) (map (λ keys. keys_of keys.items) contexts) now c.run_contexts-handled.result.items)
-    c.as_slice.ensures.value c.run_contexts-handled.ensures.all)
-    (subst (Took sink (Unit {0})) c.as_slice-2.ensures.value c.send-taken.ensures.took) c.send-taken.ensures.failed
-    (λ e none. c.send-taken.ensures.cut e (c.as_slice-2.ensures.value ∙ none)) c.send-taken.ensures.worked
-    (λ e. subst (λ (text : List ℕ). sink.now ≡ appended sink.before text) c.as_slice-2.ensures.value (c.send-taken.ensures.all e))
+    (subst (λ (inputs : Inputs). RanAll (ground_of inputs.system) inputs.script.contexts now c.run_contexts-handled.result.items) c.inputs.view_is
+    (subst (λ (contexts : List (List KeyStroke)). RanAll (ground_of c.inputs.inside.0.0) contexts now c.run_contexts-handled.result.items) c.lists.ensures c.run_contexts-handled.ensures.all))
+    (subst (λ (text : List ℕ). Sends sink text c.send-taken.result) c.as_slice.ensures.value c.send-taken.ensures)
     (ap (λ (status : ℕ). record { status = status; journal = now.journal; handled = c.run_contexts-handled.result.items }) c.status_of.ensures)

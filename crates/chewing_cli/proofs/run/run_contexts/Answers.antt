@@ -1,9 +1,10 @@
 -- One context more ran.
 use Rattle.std.proofs.Common.{◌+◌, ◌≤◌, ◌∙◌, ℕ, [], length, ap, refl, subst, sym, arith}
 use Rattle.chewing_cli.specs.Done.{progress_of}
-use Rattle.chewing_cli.specs.Keys.{keys_of}
+use Rattle.chew_script.specs.Keys.{keys_of}
 use Rattle.chewing_cli.specs.Progress.{Ran, RanAll, ground_of}
-use Rattle.chewing_cli.proofs.Contexts.{ran_all_none, ran_ends, ran_fresh, ran_next}
+use Rattle.std.proofs.lemmas.List.{length-map}
+use Rattle.chewing_cli.proofs.Contexts.{few_of, ran_all_none, ran_ends, ran_fresh, ran_next}
 use Rattle.chewing_cli.proofs.run.run_contexts.Goals as goal
 
 pub loop-keys-init : goal.loop-keys-init
@@ -21,8 +22,9 @@ run_context-requires-clause-fresh c =
 
 pub run_context-requires-clause-few : goal.run_context-requires-clause-few
 run_context-requires-clause-few c =
-    subst (λ (n : ℕ). n ≤ 65_536) (sym (ap length c.as_slice.ensures.value ∙ ap (λ keys. length keys.items) c.keys-item.is))
-    (c.requires.keys c.loop-keys.keys-index c.keys-item.result (omega arith))
+    subst (λ (n : ℕ). n ≤ 65_536) (sym (ap length c.as_slice.ensures.value))
+    (few_of (λ keys. keys_of keys.items) (λ keys. length keys.items) (λ keys. rw length-map refl) c.args.contexts.now c.loop-keys.keys-index c.keys-item.result (omega arith)
+    c.keys-item.is c.requires.few_keys)
 
 pub loop-keys-preserved : goal.loop-keys-preserved
 loop-keys-preserved c =

@@ -1,7 +1,7 @@
 -- The contexts so far ran.
 use Rattle.std.proofs.Common.{◌≡◌, length, map, take}
 use Rattle.chewing_cli.specs.Done.{progress_of}
-use Rattle.chewing_cli.specs.Keys.{keys_of}
+use Rattle.chew_script.specs.Keys.{keys_of}
 use Rattle.chewing_cli.specs.Progress.{RanAll, ground_of}
 use Rattle.chewing_cli.proofs.run.run_contexts.Given as goal
 
