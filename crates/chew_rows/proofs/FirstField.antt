@@ -5,7 +5,7 @@ use Rattle.std.proofs.lemmas.Bool.{cond-true, lt-ltb, ltb-true, ltb-false}
 use Rattle.std.proofs.lemmas.List.{drop_all}
 use Rattle.std.proofs.lemmas.List.Splits.{slice_split-cons_yes, slice_split_first}
 use Rattle.std.proofs.lemmas.Option.{cond_some, none-some}
-use Rattle.chew_rows.specs.Fields.{is_separator, is_field, fields_in}
+use Rattle.chew_spec_text.specs.DictionaryText.{is_separator, is_field, fields_in}
 
 -- a byte of a field
 abbrev pub is_inside : ℕ → Bool

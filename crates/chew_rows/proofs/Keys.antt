@@ -5,39 +5,39 @@ use Rattle.std.specs.Result.{result_ok}
 use Rattle.std.proofs.lemmas.Bool.{cond-true, cond-false, eq-eqb, ne_eqb}
 use Rattle.chew_spec_syllable.specs.SyllableText.{code_reading}
 use Rattle.chew_spec_text.specs.DictionaryText as spec
-use Rattle.chew_spec_text.specs.DictionaryText.{key_in}
-use Rattle.chew_rows.specs.Fields.{fields_in, codes_in, key_for}
+use Rattle.chew_spec_text.specs.DictionaryText.{codes_in, fields_in}
+use Rattle.chew_rows.specs.Fields.{codes_of_text, key_for}
 
 -- the first field is a syllable
-pub one_code : (text behind field : List ℕ) (code : ℕ) → fields_in text ≡ field ∷ fields_in behind → code_reading field ≡ Ok code → codes_in text ≡ option_map (λ codes. code ∷ codes) (codes_in behind)
-unfolding codes_in
-one_code text behind field code e h = ap key_in e ∙ by (code_reading field) h
+pub one_code : (text behind field : List ℕ) (code : ℕ) → fields_in text ≡ field ∷ fields_in behind → code_reading field ≡ Ok code → codes_of_text text ≡ option_map (λ codes. code ∷ codes) (codes_of_text behind)
+unfolding codes_of_text
+one_code text behind field code e h = ap codes_in e ∙ by (code_reading field) h
   where
-    by : (read : Result ℕ ℕ) → read ≡ Ok code → option_and_then (λ (y : ℕ). option_map (λ ys. y ∷ ys) (key_in (fields_in behind))) (result_ok read) ≡ option_map (λ codes. code ∷ codes) (key_in (fields_in behind))
-    by (Ok c) h = ap (λ (y : ℕ). option_map (λ ys. y ∷ ys) (key_in (fields_in behind))) cc
+    by : (read : Result ℕ ℕ) → read ≡ Ok code → option_and_then (λ (y : ℕ). option_map (λ ys. y ∷ ys) (codes_in (fields_in behind))) (result_ok read) ≡ option_map (λ codes. code ∷ codes) (codes_in (fields_in behind))
+    by (Ok c) h = ap (λ (y : ℕ). option_map (λ ys. y ∷ ys) (codes_in (fields_in behind))) cc
     by (Err place) h = absurd cc
 
 -- so the rest tells whether all are
-pub some_code : (text behind field : List ℕ) (code : ℕ) → fields_in text ≡ field ∷ fields_in behind → code_reading field ≡ Ok code → is_some (codes_in text) ≡ is_some (codes_in behind)
-some_code text behind field code e h = ap is_some (one_code text behind field code e h) ∙ by (codes_in behind)
+pub some_code : (text behind field : List ℕ) (code : ℕ) → fields_in text ≡ field ∷ fields_in behind → code_reading field ≡ Ok code → is_some (codes_of_text text) ≡ is_some (codes_of_text behind)
+some_code text behind field code e h = ap is_some (one_code text behind field code e h) ∙ by (codes_of_text behind)
   where
     by : (codes : Option (List ℕ)) → is_some (option_map (λ codes. code ∷ codes) codes) ≡ is_some codes
     by None = refl
     by (Some codes) = refl
 
 -- it is none
-pub no_code : (text behind field : List ℕ) (place : ℕ) → fields_in text ≡ field ∷ fields_in behind → code_reading field ≡ Err place → codes_in text ≡ None
-unfolding codes_in
-no_code text behind field place e h = ap key_in e ∙ by (code_reading field) h
+pub no_code : (text behind field : List ℕ) (place : ℕ) → fields_in text ≡ field ∷ fields_in behind → code_reading field ≡ Err place → codes_of_text text ≡ None
+unfolding codes_of_text
+no_code text behind field place e h = ap codes_in e ∙ by (code_reading field) h
   where
-    by : (read : Result ℕ ℕ) → read ≡ Err place → option_and_then (λ (y : ℕ). option_map (λ ys. y ∷ ys) (key_in (fields_in behind))) (result_ok read) ≡ None
+    by : (read : Result ℕ ℕ) → read ≡ Err place → option_and_then (λ (y : ℕ). option_map (λ ys. y ∷ ys) (codes_in (fields_in behind))) (result_ok read) ≡ None
     by (Ok c) h = absurd cc
     by (Err place) h = refl
 
 -- there is no field
-pub no_codes : (text : List ℕ) → fields_in text ≡ [] → codes_in text ≡ Some []
-unfolding codes_in
-no_codes text e = ap key_in e
+pub no_codes : (text : List ℕ) → fields_in text ≡ [] → codes_of_text text ≡ Some []
+unfolding codes_of_text
+no_codes text e = ap codes_in e
 
 -- one more is read
 pub one_more : (front pushed : List ℕ) (code : ℕ) (all here next : Option (List ℕ)) → pushed ≡ front ++ code ∷ [] → all ≡ option_map (λ codes. front ++ codes) here → here ≡ option_map (λ codes. code ∷ codes) next → all ≡ option_map (λ codes. pushed ++ codes) next

@@ -1,14 +1,13 @@
 -- The row of a phrase and the fields behind it.
 use Rattle.std.proofs.Common.{◌≡◌, ℕ, true, false, ◌∷◌, [], eqb, cond, List, length, chars, Bool, Option, Some, None, Result, Ok, Err, refl, ap, sym, ◌∙◌}
 use Rattle.std.specs.List.{before_first}
-use Rattle.std.specs.Prelude.{◌==◌}
 use Rattle.std.proofs.lemmas.Bool.{cond-true}
 use Rattle.chew_spec_syllable.specs.Phrase.{is_phrase}
 use Rattle.chew_spec_syllable.specs.Row.{Row}
 use Rattle.chew_spec_text.specs.DictionaryText as spec
-use Rattle.chew_spec_text.specs.DictionaryText.{fields_of, freq_in, key_in, row_in, row_with, with_fields, with_row}
+use Rattle.chew_spec_text.specs.DictionaryText.{codes_in, fields_in, fields_of, freq_in, is_hash, row_in, row_with, with_fields, with_row}
 use Rattle.chew_spec_text.specs.Lines.{without_return}
-use Rattle.chew_rows.specs.Fields.{codes_in, fields_in, key_for}
+use Rattle.chew_rows.specs.Fields.{codes_of_text, key_for}
 
 -- a new row of these parts
 abbrev pub row_of_parts : List ℕ → List ℕ → ℕ → Row
@@ -30,16 +29,16 @@ keyed phrase freq (Some codes) = by (eqb (length codes) (length (chars phrase)))
 
 -- the row of a phrase, a frequency and the fields behind it
 pub row_keyed : (phrase digits behind : List ℕ) (fields : List (List ℕ)) (freq characters : ℕ) (outcome : Result (List ℕ) spec.RowCause)
-    → is_phrase phrase ≡ true → fields ≡ digits ∷ fields_in behind → freq_in (digits ∷ []) ≡ Some freq → characters ≡ length (chars phrase) → key_for characters (codes_in behind) ≡ outcome
+    → is_phrase phrase ≡ true → fields ≡ digits ∷ fields_in behind → freq_in (digits ∷ []) ≡ Some freq → characters ≡ length (chars phrase) → key_for characters (codes_of_text behind) ≡ outcome
     → row_in phrase fields ≡ with_key phrase freq outcome
-unfolding codes_in
+unfolding codes_of_text
 row_keyed phrase digits behind fields freq characters outcome p e f same h =
-    ap (row_in phrase) e ∙ (cond-true (is_phrase phrase) (row_with phrase (freq_in (digits ∷ [])) (key_in (fields_in behind))) (Err spec.Phrase) p
-    ∙ (ap (λ (found : Option ℕ). row_with phrase found (key_in (fields_in behind))) f
-    ∙ (keyed phrase freq (key_in (fields_in behind)) ∙ ap (with_key phrase freq) (ap (λ (n : ℕ). key_for n (key_in (fields_in behind))) (sym same) ∙ h))))
+    ap (row_in phrase) e ∙ (cond-true (is_phrase phrase) (row_with phrase (freq_in (digits ∷ [])) (codes_in (fields_in behind))) (Err spec.Phrase) p
+    ∙ (ap (λ (found : Option ℕ). row_with phrase found (codes_in (fields_in behind))) f
+    ∙ (keyed phrase freq (codes_in (fields_in behind)) ∙ ap (with_key phrase freq) (ap (λ (n : ℕ). key_for n (codes_in (fields_in behind))) (sym same) ∙ h))))
 
 -- the row of a line
-pub line_row : (rows : List Row) (line stripped content phrase rest : List ℕ) (row : Row) → stripped ≡ without_return line → content ≡ before_first (λ byte. byte == 35) stripped
+pub line_row : (rows : List Row) (line stripped content phrase rest : List ℕ) (row : Row) → stripped ≡ without_return line → content ≡ before_first is_hash stripped
     → fields_in content ≡ phrase ∷ fields_in rest → row_in phrase (fields_in rest) ≡ Ok row → with_row rows (Ok row) ≡ with_fields rows (fields_of (without_return line))
 line_row rows line stripped content phrase rest row s c e h =
     sym (ap (λ (l : List ℕ). with_fields rows (fields_of l)) (sym s) ∙ (ap (λ (l : List ℕ). with_fields rows (fields_in l)) (sym c) ∙ (ap (with_fields rows) e ∙ ap (with_row rows) h)))

@@ -1,24 +1,11 @@
--- The fields of a line without its comment, and the key that fields give to a phrase.
-use Rattle.std.specs.Prelude.{ℕ, Bool, ◌||◌, ◌==◌, List, length, filter, nat_lt, Option, Some, None, Result, Ok, Err, if◌then◌else◌}
-use Rattle.std.specs.List.{slice_split}
+-- The key that the fields of a text give to a phrase.
+use Rattle.std.specs.Prelude.{ℕ, ◌==◌, List, length, Option, Some, None, Result, Ok, Err, if◌then◌else◌}
 use Rattle.chew_spec_text.specs.DictionaryText as spec
-use Rattle.chew_spec_text.specs.DictionaryText.{key_in}
+use Rattle.chew_spec_text.specs.DictionaryText.{codes_in, fields_in}
 
--- a byte that parts fields
-abbrev pub is_separator : ℕ → Bool
-is_separator byte = byte == 32 || (byte == 9)
-
--- a field is not empty
-abbrev pub is_field : List ℕ → Bool
-is_field field = nat_lt 0 (length field)
-
--- the fields of a text that has no comment
-abbrev pub fields_in : List ℕ → List (List ℕ)
-fields_in text = filter is_field (slice_split is_separator text)
-
--- the codes of the syllables of such a text
-unfoldable pub codes_in : List ℕ → Option (List ℕ)
-codes_in text = key_in (fields_in text)
+-- the codes of the syllables that the fields of a text without a comment are
+unfoldable pub codes_of_text : List ℕ → Option (List ℕ)
+codes_of_text text = codes_in (fields_in text)
 
 -- the codes as the key of a phrase of so many characters
 abbrev pub key_for : ℕ → Option (List ℕ) → Result (List ℕ) spec.RowCause

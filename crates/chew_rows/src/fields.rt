@@ -1,7 +1,7 @@
-ghost use Rattle.std.specs.Prelude.{◌≡◌, ◌<◌, ◌∷◌, ◌==◌, [], not, length, position, IfSome, IfNone};
+ghost use Rattle.std.specs.Prelude.{◌≡◌, ◌<◌, ◌∷◌, [], not, length, position, IfSome, IfNone};
 ghost use Rattle.std.specs.List.{before_first};
+ghost use Rattle.chew_spec_text.specs.DictionaryText.{fields_in, is_hash, is_separator};
 ghost use Rattle.chew_spec_text.specs.Lines.{without_return};
-ghost use Rattle.chew_rows.specs.Fields.{fields_in, is_separator};
 
 /// The line without the carriage return at its end.
 pub(crate) fn without_return(line: &[u8]) -> &[u8]
@@ -16,7 +16,7 @@ pub(crate) fn without_return(line: &[u8]) -> &[u8]
 
 /// What stands before the comment of a line.
 pub(crate) fn before_comment(line: &[u8]) -> &[u8]
-    ensures { result.now ≡ before_first (λ byte. byte == 35) line.now }
+    ensures { result.now ≡ before_first is_hash line.now }
 {
     match comment_place(line) {
         Some(place) => &line[..place],
@@ -26,7 +26,7 @@ pub(crate) fn before_comment(line: &[u8]) -> &[u8]
 
 /// Where the comment of a line begins.
 fn comment_place(line: &[u8]) -> Option<usize>
-    ensures { result ≡ position (λ byte. byte == 35) line.now }
+    ensures { result ≡ position is_hash line.now }
 {
     line.iter().position(|byte| *byte == b'#')
 }

@@ -1,6 +1,5 @@
 ghost use Rattle.std.specs.Prelude.{◌≡◌, Ok, Err, IfOk, IfErr};
-ghost use Rattle.chew_spec_text.specs.DictionaryText.{row_in};
-ghost use Rattle.chew_rows.specs.Fields.{fields_in};
+ghost use Rattle.chew_spec_text.specs.DictionaryText.{fields_in, row_in};
 ghost use Rattle.chew_rows.specs.Told.{cause_of};
 
 use crate::cause::RowCause;

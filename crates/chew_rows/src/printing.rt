@@ -6,7 +6,7 @@ use chew_syllable::{KeyRow, NoMemory, Syllable, print_bopomofo};
 use std::alloc::Global;
 
 /// The text of rows, a line each, which tells all but their times. Where no pair stands twice and they are at most
-/// 250,000, it is read as these rows with time 0.
+/// 250,000, it is read as these rows with time 0. Only want of memory is told, as `NoMemory`.
 pub fn print_rows(alloc: Global, rows: &[KeyRow]) -> Result<Vec<u8>, NoMemory>
     ensures { IfOk result (λ text. text.items ≡ rows_text rows.now) }
 {

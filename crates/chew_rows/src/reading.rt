@@ -19,8 +19,9 @@ const TEXT_LIMIT: usize = 67_108_864;
 /// The most rows of a text.
 const ROWS_LIMIT: usize = 250_000;
 
-/// The rows of a text in the order of its lines, each with time 0. A text of more than 64 MiB is refused, and one with a
-/// line that gives no row: its first such line is told.
+/// The rows of a text in the order of its lines, at most 250,000, each with time 0. A text of more than 64 MiB is
+/// refused, and one with a line that gives no row or one row too many: its first such line is told. Want of memory is
+/// told apart, as `NoMemory`.
 pub fn read_rows(alloc: Global, text: &[u8]) -> Result<Vec<KeyRow>, RowsFault>
     ensures ok { IfOk result (λ rows. dictionary_rows text.now ≡ Ok rows.items) }
     ensures distinct { IfOk result (λ rows. IsTrue (no_pair_twice rows.items)) }

@@ -1,7 +1,7 @@
 ghost use Rattle.std.specs.Prelude.{◌≡◌, ◌≤◌, Ok, Err, IfOk, IfErr, MatchOption};
 ghost use Rattle.std.specs.Option.{is_some};
 ghost use Rattle.chew_spec_text.specs.DictionaryText as spec;
-ghost use Rattle.chew_rows.specs.Fields.{codes_in, key_for};
+ghost use Rattle.chew_rows.specs.Fields.{codes_of_text, key_for};
 ghost use Rattle.chew_rows.specs.Told.{cause_of};
 
 use crate::cause::RowCause;
@@ -13,8 +13,8 @@ use chew_syllable::{Key, Syllable, read_bopomofo};
 pub(crate) fn read_key(text: &[u8], characters: usize) -> Result<Key, RowCause>
     requires some { 1 ≤ characters }
     requires few { characters ≤ 11 }
-    ensures ok { IfOk result (λ key. key_for characters (codes_in text.now) ≡ Ok key) }
-    ensures err { IfErr result (λ cause. key_for characters (codes_in text.now) ≡ Err (cause_of cause)) }
+    ensures ok { IfOk result (λ key. key_for characters (codes_of_text text.now) ≡ Ok key) }
+    ensures err { IfErr result (λ cause. key_for characters (codes_of_text text.now) ≡ Err (cause_of cause)) }
 {
     let mut syllables: ArrayVec<Syllable, 11> = ArrayVec::new();
     let mut rest = text;
@@ -38,7 +38,7 @@ pub(crate) fn read_key(text: &[u8], characters: usize) -> Result<Key, RowCause>
 
 /// The cause where there are too many syllables before these fields.
 fn cause_beyond(text: &[u8]) -> RowCause
-    ensures { MatchOption (codes_in text.now) (cause_of result ≡ spec.Syllable) (λ _. cause_of result ≡ spec.Lengths) }
+    ensures { MatchOption (codes_of_text text.now) (cause_of result ≡ spec.Syllable) (λ _. cause_of result ≡ spec.Lengths) }
 {
     if are_syllables(text) {
         RowCause::Lengths
@@ -49,7 +49,7 @@ fn cause_beyond(text: &[u8]) -> RowCause
 
 /// Whether each field of a text is a syllable.
 fn are_syllables(text: &[u8]) -> bool
-    ensures { result ≡ is_some (codes_in text.now) }
+    ensures { result ≡ is_some (codes_of_text text.now) }
 {
     let mut rest = text;
     'reading: while let Some((field, behind)) = first_field(rest) {

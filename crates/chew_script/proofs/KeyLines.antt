@@ -7,8 +7,7 @@ use Rattle.std.proofs.lemmas.Bool.{and_parts, cond-true, cond-false, leb-true, l
 use Rattle.chew_spec_text.specs.DictionaryText.{is_number}
 use Rattle.chew_spec_text.specs.KeyStroke.{keys_in}
 use Rattle.chew_spec_text.specs.Script as spec
-use Rattle.chew_spec_text.specs.Script.{context_in, key_line}
-use Rattle.chew_script.specs.Lines.{key_line_of}
+use Rattle.chew_spec_text.specs.Script.{context_in, key_line, key_line_of}
 use Rattle.chew_script.proofs.Cuts.{Lacks, before_it, behind_it, stands, stands_not}
 use Rattle.chew_script.proofs.Tables.{kept}
 

@@ -1,10 +1,9 @@
--- What the code's ScriptLine says, and the part of the definition that tells of lines of keys.
-use Rattle.std.specs.Prelude.{ℕ, ◌-◌, ◌≤◌, ⊤, List, length, Option, Some, Result, Ok, Err, if◌then◌else◌}
+-- What the code's ScriptLine says, and the contexts that a line of keys adds to.
+use Rattle.std.specs.Prelude.{ℕ, ◌-◌, ◌≤◌, ⊤, List, length, Option, Some, Result, Ok, Err}
 use Rattle.std.specs.Option.{ok_or, option_map}
-use Rattle.std.specs.List.{after_first, before_first}
 use Rattle.chew_spec_text.specs.KeyStroke.{KeyStroke, keys_in}
 use Rattle.chew_spec_text.specs.Script as spec
-use Rattle.chew_spec_text.specs.Script.{add_keys, context_in, is_colon, is_key_line, key_line}
+use Rattle.chew_spec_text.specs.Script.{add_keys, key_line}
 use Rattle.chew_script.specs.Faults.{cause_of}
 use Rattle.chew_script.specs.declared.fault.ScriptCause.{ScriptCause}
 use Rattle.chew_script.specs.declared.script_line.ScriptLine.{ScriptLine}
@@ -21,11 +20,6 @@ line_says (Err cause) = Err (cause_of cause)
 abbrev pub HasNumber : ScriptLine → Type 0
 HasNumber (Keys number text) = (1 ≤ number) × (number ≤ 16)
 HasNumber _ = ⊤
-
--- the outcome of a line that is neither empty, nor a comment, nor a round
-abbrev pub key_line_of : List ℕ → Result spec.ScriptLine spec.ScriptCause
-key_line_of line =
-    if is_key_line line then key_line (context_in (before_first is_colon line)) (keys_in (after_first is_colon line)) else Err spec.Form
 
 -- the contexts with these keys behind those of this number, and how many they are; else a '<' begins no name
 abbrev pub added : ℕ → Option (List KeyStroke) → List (List KeyStroke) → Result (List (List KeyStroke) × ℕ) spec.ScriptCause

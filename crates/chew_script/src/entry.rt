@@ -1,14 +1,15 @@
-ghost use Rattle.std.specs.Prelude.{◌≡◌, ◌++◌, ◌∷◌, decimal, IfOk, OnOk};
+ghost use Rattle.std.specs.Prelude.{◌≡◌, ◌++◌, ◌∷◌, IfOk, OnOk};
 ghost use Rattle.chew_spec_text.specs.Entry.{call_parts, codes_text, entry_text, parted};
 ghost use Rattle.chew_plain.specs.Call.{call_of, entry_of};
 
+use crate::decimal::push_decimal;
 use crate::text::Text;
 use chew_plain::{Call, Entry};
 use chew_syllable::{NoMemory, Syllable};
 use std::alloc::Global;
 
 /// The line of an entry in a trace: who made the call, its word and what it is about, parted by one space each, and a
-/// line feed at its end.
+/// line feed at its end. Only want of memory is told, as `NoMemory`.
 #[tactic(auto, unfolding(chew_spec_text::specs::Entry::entry_text))]
 pub fn print_entry(alloc: Global, entry: &Entry) -> Result<Text, NoMemory>
     ensures { IfOk result (λ text. text ≡ entry_text (entry_of entry.now)) }
@@ -45,13 +46,4 @@ fn push_codes(out: &mut Vec<u8>, syllables: &[Syllable]) -> Result<(), NoMemory>
             push_codes(out, rest)
         }
     }
-}
-
-/// Appends a number in decimal digits.
-fn push_decimal(out: &mut Vec<u8>, number: u32) -> Result<(), NoMemory>
-    ensures { OnOk result (out.new.items ≡ out.old.items ++ decimal number) }
-{
-    let digits = format!(in *out.allocator(); "{number}")?;
-    out.extend_from_slice(digits.as_bytes())?;
-    Ok(())
 }

@@ -1,4 +1,4 @@
-/// A key of a script.
+/// A key of a script, and what it is for.
 #[derive(Clone, Copy, Debug, PartialEq, Eq)]
 pub enum KeyStroke {
     /// A printable ASCII byte, from the space to `~`.
@@ -9,17 +9,25 @@ pub enum KeyStroke {
     Backspace,
     /// Takes away what stands at the cursor.
     Delete,
+    /// Moves the cursor back by one cell.
     Left,
+    /// Moves the cursor on by one cell.
     Right,
+    /// Moves the cursor before the first cell.
     Home,
+    /// Moves the cursor behind the last cell.
     End,
+    /// Closes the window of candidates.
     Up,
     /// Shows the candidates.
     Down,
+    /// Goes to the page of candidates before.
     PageUp,
+    /// Goes to the next page of candidates.
     PageDown,
     /// Sets or clears a break.
     Tab,
+    /// Clears what the layout holds, or closes the window of candidates.
     Esc,
     /// Adds the phrase of this many cells, 2 to 9, to the user's dictionary.
     Add(u8),

@@ -3,6 +3,7 @@
 
 mod contexts;
 mod cut;
+mod decimal;
 mod entry;
 mod fault;
 mod keys;

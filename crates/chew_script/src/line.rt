@@ -1,6 +1,7 @@
 ghost use Rattle.std.specs.Prelude.{◌≡◌, ◌++◌, IfOk, OnOk, decimal};
 ghost use Rattle.chew_spec_text.specs.Line.{line_text, with_line_feed, with_tab};
 
+use crate::decimal::push_decimal;
 use crate::note::{Note, note_text};
 use crate::text::Text;
 use chew_syllable::NoMemory;
@@ -20,6 +21,7 @@ pub struct Line {
     pub commit: Text,
     /// The window of candidates; empty where there is none.
     pub window: Text,
+    /// What is told of the key besides.
     pub note: Note,
 }
 
@@ -39,7 +41,8 @@ impl Model for Line {
     } };
 }
 
-/// The line as it is printed: its fields parted by TAB, and a line feed at its end.
+/// The line as it is printed: its fields parted by TAB, and a line feed at its end. Only want of memory is told, as
+/// `NoMemory`.
 #[tactic(auto, unfolding(chew_spec_text::specs::Line::line_text))]
 pub fn print_line(alloc: Global, line: &Line) -> Result<Text, NoMemory>
     ensures { IfOk result (λ text. text ≡ line_text line.now) }
@@ -67,8 +70,9 @@ fn push_field(out: &mut Vec<u8>, field: &[u8]) -> Result<(), NoMemory>
 fn push_number(out: &mut Vec<u8>, number: u32) -> Result<(), NoMemory>
     ensures { OnOk result (out.new.items ≡ out.old.items ++ with_tab (decimal number)) }
 {
-    let digits = format!(in *out.allocator(); "{number}")?;
-    push_field(out, digits.as_bytes())
+    push_decimal(out, number)?;
+    out.push(b'\t')?;
+    Ok(())
 }
 
 /// Appends the last field, and a line feed behind it.

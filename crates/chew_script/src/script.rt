@@ -30,7 +30,7 @@ impl Model for Script {
 }
 
 /// Reads a script, which has at most 1 MiB, 16 contexts, 65,536 keys and 64 rounds; refused for its first line that
-/// can't be taken.
+/// can't be taken. Want of memory is told apart, as `NoMemory`.
 pub fn read_script(alloc: Global, text: &[u8]) -> Result<Script, ScriptFault>
     ensures ok { IfOk result (λ script. script_of text.now ≡ Ok script) }
     ensures bad { (line : ℕ) (cause : ScriptCause) → IsErrOf result (ScriptFault.Bad line cause) → script_of text.now ≡ Err (record { line = line; cause = cause_of cause }) }

@@ -3,8 +3,8 @@ ghost use Rattle.std.specs.List.{list_all};
 ghost use Rattle.std.specs.Char.{is_ascii_digit};
 ghost use Rattle.chew_spec_text.specs.DictionaryText as digits;
 ghost use Rattle.chew_spec_text.specs.KeyStroke as spec;
-ghost use Rattle.chew_spec_text.specs.Script.{script_line};
-ghost use Rattle.chew_script.specs.Lines.{HasNumber, key_line_of, line_says};
+ghost use Rattle.chew_spec_text.specs.Script.{key_line_of, script_line};
+ghost use Rattle.chew_script.specs.Lines.{HasNumber, line_says};
 
 use crate::cut::cut_at;
 use crate::fault::ScriptCause;

@@ -15,7 +15,7 @@ use Rattle.chew_spec_syllable.specs.Syllable.{Parts, code_of, is_code}
 use Rattle.chew_spec_syllable.specs.SyllableText.{code_or_place, code_reading, syllable_reading}
 use Rattle.chew_spec_syllable.proofs.CodeParts.{code_is}
 use Rattle.chew_spec_syllable.proofs.Reading.{read_valid}
-use Rattle.chew_spec_text.specs.DictionaryText.{RowCause, Size, Phrase, Lengths, Twice, Rows, digits_value, dictionary_rows, fields_of, freq_in, is_number, key_in, row_in, row_with, rows_limit, system_limit, with_fields, with_row}
+use Rattle.chew_spec_text.specs.DictionaryText.{RowCause, Size, Phrase, Lengths, Twice, Rows, codes_in, digits_value, dictionary_rows, fields_of, freq_in, is_number, row_in, row_with, rows_limit, system_limit, with_fields, with_row}
 use Rattle.chew_spec_text.specs.Lines.{lines_of}
 use Rattle.chew_spec_text.proofs.EachLine.{keeps}
 use Rattle.chew_spec_text.proofs.Found.{holds_in}
@@ -46,10 +46,10 @@ key_more (Some code) None h k = refl
 key_more (Some code) (Some codes) h k = and_from _ _ h k
 
 -- the syllables' fields are read as codes
-key_range : (fields : List (List ℕ)) → holds_in (list_all is_code) (key_in fields) ≡ true
+key_range : (fields : List (List ℕ)) → holds_in (list_all is_code) (codes_in fields) ≡ true
 key_range [] = refl
 key_range (field ∷ fields) =
-    key_more (result_ok (code_reading field)) (key_in fields)
+    key_more (result_ok (code_reading field)) (codes_in fields)
     (code_range (syllable_reading field) (λ p e. code_is p (read_valid field p e))) (key_range fields)
 
 -- characters of which there are bytes are some
@@ -93,8 +93,8 @@ with_new phrase (Some freq) (Some key) p f k =
 -- what the fields of a line make
 new_in : (phrase : List ℕ) (fields : List (List ℕ)) → is_new (row_in phrase fields) ≡ true
 new_in phrase fields =
-    cond_both (is_phrase phrase) (row_with phrase (freq_in fields) (key_in (drop 1 fields))) (Err Phrase) (λ r. is_new r ≡ true)
-    (λ p. with_new phrase (freq_in fields) (key_in (drop 1 fields)) p (freq_range fields) (key_range (drop 1 fields))) (λ _. refl)
+    cond_both (is_phrase phrase) (row_with phrase (freq_in fields) (codes_in (drop 1 fields))) (Err Phrase) (λ r. is_new r ≡ true)
+    (λ p. with_new phrase (freq_in fields) (codes_in (drop 1 fields)) p (freq_range fields) (key_range (drop 1 fields))) (λ _. refl)
 
 -- what the rows of a text are
 pub record Proper (rows : List Row) : Type 0 where
@@ -181,8 +181,8 @@ fields_told : (rows : List Row) (fields : List (List ℕ)) → is_of_line (with_
 fields_told rows [] = refl
 fields_told rows (phrase ∷ fields) =
     row_told rows (row_in phrase fields)
-    (cond_both (is_phrase phrase) (row_with phrase (freq_in fields) (key_in (drop 1 fields))) (Err Phrase) (λ r. is_of_line r ≡ true)
-    (λ _. with_told phrase (freq_in fields) (key_in (drop 1 fields))) (λ _. refl))
+    (cond_both (is_phrase phrase) (row_with phrase (freq_in fields) (codes_in (drop 1 fields))) (Err Phrase) (λ r. is_of_line r ≡ true)
+    (λ _. with_told phrase (freq_in fields) (codes_in (drop 1 fields))) (λ _. refl))
 
 -- no line is refused for the size
 pub never_size : (rows : List Row) (line : List ℕ) (cause : RowCause) → taken rows line ≡ Err cause → cause ≡ Size → ⊥

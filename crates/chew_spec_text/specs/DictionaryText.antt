@@ -10,10 +10,11 @@ use Rattle.chew_spec_syllable.specs.Row.{Row, greatest_freq, is_pair_of}
 use Rattle.chew_spec_syllable.specs.SyllableText.{code_reading}
 use Rattle.chew_spec_text.specs.Lines.{Fault, each_line, lines_of}
 
--- at most 64 MiB, and 250,000 rows
+-- the most bytes of a dictionary's text, 64 MiB
 abbrev pub system_limit : ℕ
 system_limit = 67_108_864
 
+-- the most rows of a dictionary's text
 abbrev pub rows_limit : ℕ
 rows_limit = 250_000
 
@@ -34,11 +35,25 @@ pub data RowCause : Type 0 where
   -- it is the 250,001st row
   Rows : RowCause
 
--- the fields of a line: spaces and tabs part them, and a comment begins with '#'
+-- a byte that begins a comment: '#'
+abbrev pub is_hash : ℕ → Bool
+is_hash byte = byte == 35
+
+-- a byte that parts fields: a space or a tab
+abbrev pub is_separator : ℕ → Bool
+is_separator byte = byte == 32 || (byte == 9)
+
+-- a field is not empty
+abbrev pub is_field : List ℕ → Bool
+is_field field = nat_lt 0 (length field)
+
+-- the fields of a text that has no comment
+abbrev pub fields_in : List ℕ → List (List ℕ)
+fields_in text = filter is_field (slice_split is_separator text)
+
+-- the fields of a line, which end where its comment begins
 abbrev pub fields_of : List ℕ → List (List ℕ)
-fields_of line =
-    filter (λ field. nat_lt 0 (length field))
-    (slice_split (λ byte. byte == 32 || (byte == 9)) (before_first (λ byte. byte == 35) line))
+fields_of line = fields_in (before_first is_hash line)
 
 -- the number that decimal digits write
 abbrev pub digits_value : List ℕ → ℕ
@@ -60,8 +75,8 @@ each_value f [] = Some []
 each_value f (x ∷ xs) = option_and_then (λ y. option_map (λ ys. y ∷ ys) (each_value f xs)) (f x)
 
 -- the codes of the syllables that the fields are
-abbrev pub key_in : List (List ℕ) → Option (List ℕ)
-key_in fields = each_value (λ field. result_ok (code_reading field)) fields
+abbrev pub codes_in : List (List ℕ) → Option (List ℕ)
+codes_in fields = each_value (λ field. result_ok (code_reading field)) fields
 
 -- the row of a phrase with this frequency and key
 abbrev pub row_with : List ℕ → Option ℕ → Option (List ℕ) → Result Row RowCause
@@ -74,7 +89,7 @@ row_with phrase (Some freq) (Some key) =
 
 -- the row of a phrase and the fields behind it
 abbrev pub row_in : List ℕ → List (List ℕ) → Result Row RowCause
-row_in phrase fields = if is_phrase phrase then row_with phrase (freq_in fields) (key_in (drop 1 fields)) else Err Phrase
+row_in phrase fields = if is_phrase phrase then row_with phrase (freq_in fields) (codes_in (drop 1 fields)) else Err Phrase
 
 -- the rows and one more
 abbrev pub with_row : List Row → Result Row RowCause → Result (List Row) RowCause

@@ -3,6 +3,7 @@ use Rattle.std.specs.Prelude.{ℕ, Bool, true, ◌&&◌, List, [], ◌∷◌, �
 use Rattle.std.specs.Option.{option_and_then, option_map}
 use Rattle.std.specs.List.{after_first, before_first, list_any, range_with_len, slice_split}
 
+-- a key of a script
 pub data KeyStroke : Type 0 where
   -- a printable ASCII byte
   Char : (byte : ℕ) → KeyStroke
@@ -40,6 +41,7 @@ pub record NamedKey : Type 0 where
   pub name : List ℕ
   pub key : KeyStroke
 
+-- the key of this name
 abbrev pub named : List ℕ → KeyStroke → NamedKey
 named name key = record { name = name; key = key }
 

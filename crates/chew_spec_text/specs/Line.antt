@@ -24,6 +24,7 @@ pub record Line : Type 0 where
   pub window : List ℕ
   pub note : Note
 
+-- the text of each note
 abbrev pub note_text : Note → List ℕ
 note_text Quiet = []
 note_text Bell = codes "bell"

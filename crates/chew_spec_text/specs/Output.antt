@@ -24,7 +24,7 @@ contexts_from number (lines ∷ rest) = context_text number lines ++ contexts_fr
 abbrev pub output : List (List Line) → List ℕ
 output contexts = contexts_from 1 contexts
 
--- the word of each cause
+-- the word of each cause of a dictionary's fault
 abbrev pub row_cause_word : RowCause → List ℕ
 row_cause_word row.Size = codes "size"
 row_cause_word row.Phrase = codes "phrase"
@@ -34,6 +34,7 @@ row_cause_word row.Lengths = codes "lengths"
 row_cause_word row.Twice = codes "twice"
 row_cause_word row.Rows = codes "rows"
 
+-- the word of each cause of a script's fault
 abbrev pub script_cause_word : ScriptCause → List ℕ
 script_cause_word script.Size = codes "size"
 script_cause_word script.Byte = codes "byte"
@@ -59,6 +60,7 @@ pub data Refusal : Type 0 where
 abbrev pub fault_line : List ℕ → ℕ → List ℕ → List ℕ
 fault_line input line word = input ++ (32 ∷ (decimal line ++ (32 ∷ with_line_feed word)))
 
+-- the line that tells a refusal
 abbrev pub refusal_line : Refusal → List ℕ
 refusal_line WrongWords = with_line_feed (codes "words")
 refusal_line (WrongSystem fault) = fault_line (codes "system") fault.line (row_cause_word fault.cause)
@@ -66,6 +68,7 @@ refusal_line (WrongScript fault) = fault_line (codes "script") fault.line (scrip
 refusal_line SourceFailed = with_line_feed (codes "source")
 refusal_line NoMemory = with_line_feed (codes "memory")
 
+-- the status of a refused run
 abbrev pub refusal_status : Refusal → ℕ
 refusal_status WrongWords = 2
 refusal_status (WrongSystem fault) = 4

@@ -5,16 +5,19 @@ use Rattle.chew_spec_text.specs.DictionaryText.{is_number}
 use Rattle.chew_spec_text.specs.KeyStroke.{KeyStroke, is_printable, keys_in}
 use Rattle.chew_spec_text.specs.Lines.{Fault, each_line, lines_of}
 
--- at most 1 MiB, 65,536 keys, 64 rounds and 16 contexts
+-- the most bytes of a script, 1 MiB
 abbrev pub script_limit : ℕ
 script_limit = 1_048_576
 
+-- the most keys of all contexts of a script
 abbrev pub keys_limit : ℕ
 keys_limit = 65_536
 
+-- the most rounds that a script asks
 abbrev pub rounds_limit : ℕ
 rounds_limit = 64
 
+-- the most contexts of a script
 abbrev pub contexts_limit : ℕ
 contexts_limit = 16
 
@@ -52,17 +55,24 @@ pub data ScriptLine : Type 0 where
 abbrev pub context_in : List ℕ → Option ℕ
 context_in digits = find (λ number. bytes_eq (decimal number) digits) (range_with_len 1 contexts_limit)
 
--- a line of keys: a number, ':' and keys
+-- a byte that parts a context's number from its keys: ':'
 abbrev pub is_colon : ℕ → Bool
 is_colon byte = byte == 58
 
+-- a line of keys: a number, ':' and keys
 abbrev pub is_key_line : List ℕ → Bool
 is_key_line line = list_any is_colon line && is_number (before_first is_colon line)
 
+-- what a line of this number and these keys says, where it has both
 abbrev pub key_line : Option ℕ → Option (List KeyStroke) → Result ScriptLine ScriptCause
 key_line None keys = Err Context
 key_line (Some number) None = Err Key
 key_line (Some number) (Some keys) = Ok (KeyLine number keys)
+
+-- what a line says that is neither empty, nor a comment, nor a round
+abbrev pub key_line_of : List ℕ → Result ScriptLine ScriptCause
+key_line_of line =
+    if is_key_line line then key_line (context_in (before_first is_colon line)) (keys_in (after_first is_colon line)) else Err Form
 
 -- what a line says, or why it says nothing
 abbrev pub script_line : List ℕ → Result ScriptLine ScriptCause
@@ -70,8 +80,7 @@ script_line line =
     if length line == 0 || starts_with nat_eq line (codes "#") then Ok Nothing
     else if not (list_all is_printable line) then Err Byte
     else if bytes_eq line (codes "round") then Ok Round
-    else if is_key_line line then key_line (context_in (before_first is_colon line)) (keys_in (after_first is_colon line))
-    else Err Form
+    else key_line_of line
 
 -- the keys behind those of the context at this place, counted from 0; each context before it is there then
 abbrev pub add_keys : ℕ → List KeyStroke → List (List KeyStroke) → List (List KeyStroke)

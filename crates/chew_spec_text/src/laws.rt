@@ -5,5 +5,6 @@ mod dictionary_text;
 mod entry;
 mod keys;
 mod lines;
+mod opening;
 mod output;
 mod script;

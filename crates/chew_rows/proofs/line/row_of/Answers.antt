@@ -1,6 +1,6 @@
 -- The row of what was read, and the cause where there is no key.
 use Rattle.std.proofs.Common.{ℕ, List, length, chars, Ok, Err, ap, sym, ◌∙◌}
-use Rattle.chew_rows.specs.Fields.{fields_in}
+use Rattle.chew_spec_text.specs.DictionaryText.{fields_in}
 use Rattle.chew_rows.specs.Told.{cause_of}
 use Rattle.chew_rows.proofs.Rows.{row_keyed, row_of_parts}
 use Rattle.chew_rows.proofs.line.row_of.Goals as goal
