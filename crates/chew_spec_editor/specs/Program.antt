@@ -5,7 +5,7 @@ use Rattle.chew_spec_outside.specs.Sink.{appended}
 use Rattle.chew_spec_dictionary.specs.History.{Entry, Point}
 use Rattle.chew_spec_text.specs.Line.{Line}
 use Rattle.chew_spec_text.specs.Output.{Refusal, NoMemory, output, refusal_line, refusal_status}
-use Rattle.chew_spec_text.specs.Run.{Inputs, IsStatus, Texts, Watched, opening}
+use Rattle.chew_spec_text.specs.Run.{Inputs, IsStatus, ReadsInOrder, Texts, Watched, opening}
 use Rattle.chew_spec_editor.specs.Context.{HandleAll}
 use Rattle.chew_spec_editor.specs.Editor.{Settings}
 
@@ -59,6 +59,7 @@ pub record IsTalk (inputs : Inputs) (settings : Settings) (start : Point) (sink 
 -- a run of the program with these words
 pub record IsRun (words : List (List ℕ)) (settings : Settings) (start : Point) (system script : Watched) (sink : Sunk) (ended : Ended) : Type 0 where
   pub texts : Texts system script
+  pub read : (ended.status ≡ 10 → ended.handled ≢ []) → ReadsInOrder words system script texts
   pub status : IsStatus (opening words texts.system_text texts.script_text) ended.status
   pub sink_failed : ended.status ≡ 8 → Rose sink.faults_before sink.faults_now
   pub sink_worked : ended.status ≡ 0 → sink.faults_now ≡ sink.faults_before

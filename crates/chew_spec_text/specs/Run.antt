@@ -1,5 +1,6 @@
 -- A run before its first key: what was read of its inputs, what they are, and the status of the run.
-use Rattle.std.specs.Prelude.{◌≡◌, ◌⊎◌, ℕ, ◌+◌, ◌≤◌, List, length, take, Option, Some, None, IfSome, IsNone, Result, Ok, Err, MatchResult, if◌then◌else◌}
+use Rattle.std.specs.Prelude.{◌≡◌, ◌⊎◌, ℕ, ◌+◌, ◌≤◌, true, false, List, length, take, drop, Option, Some, None, IfSome, IsNone, Result, Ok, Err, MatchResult, if◌then◌else◌}
+use Rattle.std.specs.Option.{option_map}
 use Rattle.chew_spec_outside.specs.Faults.{Rose}
 use Rattle.chew_spec_syllable.specs.Row.{Row, image_cmp}
 use Rattle.chew_spec_dictionary.specs.Order.{in_order}
@@ -9,9 +10,10 @@ use Rattle.chew_spec_text.specs.KeyStroke.{KeyStroke}
 use Rattle.chew_spec_text.specs.Output.{Refusal, WrongWords, WrongSystem, WrongScript, SourceFailed, refusal_status}
 use Rattle.chew_spec_text.specs.Script.{Script, script_of, script_limit}
 
--- a source over a call: what it had left, where it tells it, and its count of faults before and now
+-- a source over a call: what it had left and has left now, where it tells it, and its count of faults before and now
 pub record Watched : Type 0 where
   pub left : Option (List ℕ)
+  pub left_now : Option (List ℕ)
   pub faults_before : ℕ
   pub faults_now : ℕ
 
@@ -36,6 +38,10 @@ abbrev pub value_or_refusal : {X F : Type 0} → (List ℕ → Result X F) → (
 value_or_refusal value refusal None = Err SourceFailed
 value_or_refusal value refusal (Some text) = or_refusal refusal (value text)
 
+-- the rows of the system's text, or why there are none
+abbrev pub system_value : Option (List ℕ) → Result (List Row) Refusal
+system_value text = value_or_refusal dictionary_rows WrongSystem text
+
 -- the inputs of these rows and this script, or the first refusal: the system comes before the script
 abbrev pub inputs_of : Result (List Row) Refusal → Result Script Refusal → Result Inputs Refusal
 inputs_of (Err refusal) script = Err refusal
@@ -46,15 +52,33 @@ inputs_of (Ok rows) (Ok script) = Ok (record { system = in_order image_cmp rows;
 unfoldable pub opening : List (List ℕ) → (system script : Option (List ℕ)) → Result Inputs Refusal
 opening words system script =
     if is_run_command words
-    then inputs_of (value_or_refusal dictionary_rows WrongSystem system) (value_or_refusal script_of WrongScript script)
+    then inputs_of (system_value system) (value_or_refusal script_of WrongScript script)
     else Err WrongWords
 
--- what was read of the two sources of a run
+-- texts of the two sources of a run
 pub record Texts (system script : Watched) : Type 0 where
   pub system_text : Option (List ℕ)
   pub script_text : Option (List ℕ)
   pub system_read : IsReadOf system system_limit system_text
   pub script_read : IsReadOf script script_limit script_text
+
+-- what a source leaves that was read: where a text came, what follows it, and its count of faults as it was
+pub record IsReadOut (source : Watched) (limit : ℕ) (text : Option (List ℕ)) : Type 0 where
+  pub rest : IfSome text (λ _. source.left_now ≡ option_map (drop (limit + 1)) source.left)
+  pub worked : IfSome text (λ _. source.faults_now ≡ source.faults_before)
+
+-- a source that was not read is as it was
+pub record IsUnread (source : Watched) : Type 0 where
+  pub same_left : source.left_now ≡ source.left
+  pub same_count : source.faults_now ≡ source.faults_before
+
+-- a run reads the system where the words have the form of a command, then the script where the system has no fault
+pub record ReadsInOrder (words : List (List ℕ)) (system script : Watched) (texts : Texts system script) : Type 0 where
+  pub words_refused : is_run_command words ≡ false → IsUnread system × IsUnread script
+  pub system_read : is_run_command words ≡ true → IsReadOut system system_limit texts.system_text
+  pub system_refused : is_run_command words ≡ true → (refusal : Refusal) → system_value texts.system_text ≡ Err refusal → IsUnread script
+  pub script_read : is_run_command words ≡ true → (rows : List Row) → system_value texts.system_text ≡ Ok rows
+      → IsReadOut script script_limit texts.script_text
 
 -- the status of a run that these texts open: 10 where memory was wanting; else that of the refusal, or 0 or 8
 abbrev pub IsStatus : Result Inputs Refusal → ℕ → Type 0

@@ -6,17 +6,28 @@ use chewing_cli::{chewing, is_run};
 use std::alloc::{AllocError, Global};
 use std::env::Env;
 use std::fs::Files;
-use std::io::{Eprint, Print};
+use std::io::{Eprint, ErrorKind, Print};
 use std::process::ExitCode;
 use std::{env, fs, io};
 
 /// The status where a file can't be opened. No call gives it.
 const NOT_OPENED: u8 = 13;
 
+/// The status where memory was wanting.
+const NO_MEMORY: u8 = 10;
+
 fn main(rt: HostRuntime) -> ExitCode {
     match words_of(&rt) {
         Ok(words) => ExitCode::from(run_words(&rt, words.as_slice())),
-        Err(_) => ExitCode::from(refuse(&rt, &[])),
+        Err(error) => ExitCode::from(no_words(&rt, error.kind())),
+    }
+}
+
+/// The words can't be had: there was no memory for them, or one of them is no text.
+fn no_words<R: Print + AllocGlobal>(rt: &R, kind: ErrorKind) -> u8 {
+    match kind {
+        ErrorKind::OutOfMemory => out_of_memory(rt),
+        _ => refuse(rt, &[]),
     }
 }
 
@@ -29,11 +40,11 @@ fn words_of<R: Env + AllocGlobal>(rt: &R) -> io::Result<Vec<String>> {
     Ok(words)
 }
 
-/// Runs the words, or none where they can't be lent.
+/// Runs the words.
 fn run_words<R: Files + Print + Eprint + AllocGlobal>(rt: &R, words: &[String]) -> u8 {
     match lent(rt.alloc(), words) {
         Ok(words) => run(rt, words.as_slice()),
-        Err(AllocError) => refuse(rt, &[]),
+        Err(AllocError) => out_of_memory(rt),
     }
 }
 
@@ -74,6 +85,12 @@ fn refuse<R: Print + AllocGlobal>(rt: &R, words: &[&str]) -> u8 {
     let mut script = MemSource::of(Vec::new(alloc), 1, Fails::never(alloc));
     let mut sink = StdSink::of(io::writer(rt));
     chewing(alloc, words, &mut system, &mut script, &mut sink).status
+}
+
+/// Tells that memory was wanting before the words were known, which makes no call.
+fn out_of_memory<R: Print>(rt: &R) -> u8 {
+    let _ = println!(rt; "memory");
+    NO_MEMORY
 }
 
 fn not_opened<R: Eprint>(rt: &R, name: &str) -> u8 {

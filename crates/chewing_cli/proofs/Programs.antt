@@ -31,6 +31,7 @@ run_refused words settings start system script sink ended refusal opens status j
     let opened : Result Inputs Refusal = opening words opens.texts.system_text opens.texts.script_text in
     record {
       texts = opens.texts;
+      read = λ began. opens.read (λ none. let same : refusal ≡ NoMemory = cc in began (status ∙ ap refusal_status same) handled);
       status = ⊎_elim
           (λ none. let same : refusal ≡ NoMemory = cc in inl (status ∙ ap refusal_status same))
           (λ gives. inr (subst (λ (o : Result Inputs Refusal). Fits o ended.status) gives status)) opens.gives;
@@ -56,6 +57,7 @@ run_opened words settings start system script sink ended inputs opens runs =
     let gives : opened ≡ Ok inputs = ⊎_elim (λ none. absurd cc) (λ gives. sym gives) opens.gives in
     record {
       texts = opens.texts;
+      read = λ _. opens.read (λ none. cc);
       status = ⊎_elim (λ ten. inl ten) (λ other. inr (subst (λ (o : Result Inputs Refusal). Fits o ended.status) (sym gives) other)) runs.status;
       sink_failed = runs.sink_failed;
       sink_worked = runs.sink_worked;

@@ -36,8 +36,8 @@ pub(crate) fn open<I: Source, Y: Source>(
     script: &mut I,
 ) -> Result<Inputs, Refusal>
     ensures opens { Opens (map (λ word. word.now) words.now)
-        (watched (Y.left system.old) (Y.faults system.old) (Y.faults system.new))
-        (watched (I.left script.old) (I.faults script.old) (I.faults script.new))
+        (watched (Y.left system.old) (Y.left system.new) (Y.faults system.old) (Y.faults system.new))
+        (watched (I.left script.old) (I.left script.new) (I.faults script.old) (I.faults script.new))
         (outcome_of inputs_as result) }
     ensures words { is_run_command (map (λ word. word.now) words.now) ≡ false → outcome_of inputs_as result ≡ Err spec.WrongWords }
     ensures few_contexts { IfOk result (λ inputs. length inputs.script.contexts ≤ 16) }
@@ -61,7 +61,7 @@ pub(crate) fn open<I: Source, Y: Source>(
 
 /// Reads the system.
 fn open_system<Y: Source>(alloc: Global, source: &mut Y) -> Result<RowMap, Refusal>
-    ensures { Reads system_rows spec.WrongSystem system_limit (watched (Y.left source.old) (Y.faults source.old) (Y.faults source.new)) (outcome_of (λ rows. rows) result) }
+    ensures { Reads system_rows spec.WrongSystem system_limit (watched (Y.left source.old) (Y.left source.new) (Y.faults source.old) (Y.faults source.new)) (outcome_of (λ rows. rows) result) }
 {
     match read_up_to(alloc, source, SYSTEM_LIMIT) {
         Ok(text) => system_of(alloc, text.as_slice()),
@@ -86,7 +86,7 @@ fn system_of(alloc: Global, text: &[u8]) -> Result<RowMap, Refusal>
 
 /// Reads the script.
 fn open_script<I: Source>(alloc: Global, source: &mut I) -> Result<Script, Refusal>
-    ensures reads { Reads script_of spec.WrongScript script_limit (watched (I.left source.old) (I.faults source.old) (I.faults source.new)) (outcome_of (λ script. script) result) }
+    ensures reads { Reads script_of spec.WrongScript script_limit (watched (I.left source.old) (I.left source.new) (I.faults source.old) (I.faults source.new)) (outcome_of (λ script. script) result) }
     ensures few_contexts { IfOk result (λ script. length script.contexts ≤ 16) }
     ensures few_keys { IfOk result (λ script. All (λ keys. length keys ≤ 65_536) script.contexts) }
 {

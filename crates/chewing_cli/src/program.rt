@@ -15,7 +15,8 @@ use std::alloc::Global;
 
 /// Runs the program on its words: reads the system and the script, and writes the lines of the script's keys.
 /// The folder that the words name isn't opened yet. All that is written is written at the end. Where memory is
-/// refused, no more keys are handled: the lines of those before it are written, or `memory` where no list was begun.
+/// refused, no more keys are handled: the lines of those before it are written, or `memory` where not even the first
+/// header was made.
 pub fn chewing<I: Source, Y: Source, O: Sink>(
     alloc: Global,
     words: &[&str],
@@ -24,8 +25,8 @@ pub fn chewing<I: Source, Y: Source, O: Sink>(
     sink: &mut O,
 ) -> Done
     ensures run { IsRun (map (λ word. word.now) words.now) (record { layout = Standard; buffer = 10 }) (start_of (record { pairs = []; life = 0; cap = 65_536 }))
-        (record { left = Y.left system.old; faults_before = Y.faults system.old; faults_now = Y.faults system.new })
-        (record { left = I.left script.old; faults_before = I.faults script.old; faults_now = I.faults script.new })
+        (record { left = Y.left system.old; left_now = Y.left system.new; faults_before = Y.faults system.old; faults_now = Y.faults system.new })
+        (record { left = I.left script.old; left_now = I.left script.new; faults_before = I.faults script.old; faults_now = I.faults script.new })
         (record { before = O.taken sink.old; now = O.taken sink.new; faults_before = O.faults sink.old; faults_now = O.faults sink.new })
         (ended_of result) }
     ensures words { (result.status ≡ 2) ↔ (is_run_command (map (λ word. word.now) words.now) ≡ false) }
