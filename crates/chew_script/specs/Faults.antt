@@ -6,6 +6,7 @@ use Rattle.chew_script.specs.declared.fault.ScriptCause.TheVariants.{Size, Byte,
 use Rattle.chew_script.specs.declared.fault.LineFault.{LineFault}
 use Rattle.chew_script.specs.declared.fault.LineFault.TheVariants.{Bad, NoMemory}
 
+-- the definition's cause
 abbrev pub cause_of : ScriptCause → spec.ScriptCause
 cause_of Size = spec.Size
 cause_of Byte = spec.Byte

@@ -5,6 +5,7 @@ use Rattle.chew_spec_text.specs.KeyStroke as spec
 use Rattle.chew_script.specs.declared.keystroke.KeyStroke.{KeyStroke}
 use Rattle.chew_script.specs.declared.keystroke.KeyStroke.TheVariants.{Char, Enter, Backspace, Delete, Left, Right, Home, End, Up, Down, PageUp, PageDown, Tab, Esc, Add, Forget}
 
+-- the definition's key
 abbrev pub key_of : KeyStroke → spec.KeyStroke
 key_of (Char byte) = spec.Char byte
 key_of Enter = spec.Enter
@@ -23,6 +24,7 @@ key_of Esc = spec.Esc
 key_of (Add cells) = spec.Add cells
 key_of (Forget cells) = spec.Forget cells
 
+-- the definition's keys
 abbrev pub keys_of : List KeyStroke → List spec.KeyStroke
 keys_of keys = map key_of keys
 

@@ -3,6 +3,7 @@ use Rattle.chew_spec_text.specs.Line as spec
 use Rattle.chew_script.specs.declared.note.Note.{Note}
 use Rattle.chew_script.specs.declared.note.Note.TheVariants.{Quiet, Bell, Full, Added, Forgot, Missing}
 
+-- the definition's note
 abbrev pub note_of : Note → spec.Note
 note_of Quiet = spec.Quiet
 note_of Bell = spec.Bell

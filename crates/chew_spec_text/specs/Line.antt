@@ -33,10 +33,11 @@ note_text Added = codes "added"
 note_text Forgot = codes "forgot"
 note_text Missing = codes "none"
 
--- the text, and a TAB or a line feed behind it
+-- the text, and a TAB behind it
 abbrev pub with_tab : List ℕ → List ℕ
 with_tab text = text ++ 9 ∷ []
 
+-- the text, and a line feed behind it
 abbrev pub with_line_feed : List ℕ → List ℕ
 with_line_feed text = text ++ 10 ∷ []
 

@@ -63,7 +63,7 @@ is_colon byte = byte == 58
 abbrev pub is_key_line : List ℕ → Bool
 is_key_line line = list_any is_colon line && is_number (before_first is_colon line)
 
--- what a line of this number and these keys says, where it has both
+-- what a line of this number and these keys says, or which of them it lacks
 abbrev pub key_line : Option ℕ → Option (List KeyStroke) → Result ScriptLine ScriptCause
 key_line None keys = Err Context
 key_line (Some number) None = Err Key
