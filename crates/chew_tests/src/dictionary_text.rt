@@ -109,52 +109,29 @@ fn a_text_that_is_cut_gives_what_its_front_says(rt: HostRuntime) -> Result<(), F
     let first = Ok("是 9 ㄕˋ\n");
     let both = Ok("是 9 ㄕˋ\n測試 8 ㄘㄜˋ ㄕˋ\n");
     let outcomes = [
-        // nothing
-        (1, Ok("")),
-        // two bytes of 是
-        (2, Err((1, RowCause::Phrase))),
-        // 是, and the tab
-        (2, Err((1, RowCause::Frequency))),
-        // the 9, and the space
-        (2, Err((1, RowCause::Lengths))),
-        // two bytes of ㄕ
-        (2, Err((1, RowCause::Syllable))),
-        // ㄕ
-        (1, Ok("是 9 ㄕ\n")),
-        // a byte of the tone
-        (1, Err((1, RowCause::Syllable))),
-        // the tone, the carriage return and two line feeds
-        (4, first),
-        // two bytes of 測
-        (2, Err((3, RowCause::Phrase))),
-        // 測
-        (1, Err((3, RowCause::Frequency))),
-        // two bytes of 試
-        (2, Err((3, RowCause::Phrase))),
-        // 試, and the space
-        (2, Err((3, RowCause::Frequency))),
-        // the 0, the 8 and the space
-        (3, Err((3, RowCause::Lengths))),
-        // two bytes of ㄘ
-        (2, Err((3, RowCause::Syllable))),
-        // ㄘ
-        (1, Err((3, RowCause::Lengths))),
-        // two bytes of ㄜ
-        (2, Err((3, RowCause::Syllable))),
-        // ㄜ
-        (1, Err((3, RowCause::Lengths))),
-        // a byte of the tone
-        (1, Err((3, RowCause::Syllable))),
-        // the tone, and the space
-        (2, Err((3, RowCause::Lengths))),
-        // two bytes of ㄕ
-        (2, Err((3, RowCause::Syllable))),
-        // ㄕ
-        (1, Ok("是 9 ㄕˋ\n測試 8 ㄘㄜˋ ㄕ\n")),
-        // a byte of the tone
-        (1, Err((3, RowCause::Syllable))),
-        // the tone, the space and the comment
-        (4, both),
+        (1, Ok("")), // nothing
+        (2, Err((1, RowCause::Phrase))), // two bytes of 是
+        (2, Err((1, RowCause::Frequency))), // 是, and the tab
+        (2, Err((1, RowCause::Lengths))), // the 9, and the space
+        (2, Err((1, RowCause::Syllable))), // two bytes of ㄕ
+        (1, Ok("是 9 ㄕ\n")), // ㄕ
+        (1, Err((1, RowCause::Syllable))), // a byte of the tone
+        (4, first), // the tone, the carriage return and two line feeds
+        (2, Err((3, RowCause::Phrase))), // two bytes of 測
+        (1, Err((3, RowCause::Frequency))), // 測
+        (2, Err((3, RowCause::Phrase))), // two bytes of 試
+        (2, Err((3, RowCause::Frequency))), // 試, and the space
+        (3, Err((3, RowCause::Lengths))), // the 0, the 8 and the space
+        (2, Err((3, RowCause::Syllable))), // two bytes of ㄘ
+        (1, Err((3, RowCause::Lengths))), // ㄘ
+        (2, Err((3, RowCause::Syllable))), // two bytes of ㄜ
+        (1, Err((3, RowCause::Lengths))), // ㄜ
+        (1, Err((3, RowCause::Syllable))), // a byte of the tone
+        (2, Err((3, RowCause::Lengths))), // the tone, and the space
+        (2, Err((3, RowCause::Syllable))), // two bytes of ㄕ
+        (1, Ok("是 9 ㄕˋ\n測試 8 ㄘㄜˋ ㄕ\n")), // ㄕ
+        (1, Err((3, RowCause::Syllable))), // a byte of the tone
+        (4, both), // the tone, the space and the comment
     ];
     let mut cut = 0;
     for (cuts, want) in outcomes {

@@ -22,6 +22,8 @@ mod layouts_26;
 #[cfg(test)]
 mod layouts_pinyin;
 #[cfg(test)]
+mod limits;
+#[cfg(test)]
 mod phrasing;
 #[cfg(test)]
 mod script_text;
