@@ -1,58 +1,21 @@
 //! One context, from the bytes of its inputs to the bytes of its output.
 
-use arrayvec::ArrayVec;
+use crate::runs::{
+    FIVE_ROWS, TWO_SYLLABLES, TWO_SYLLABLES_PRINTED, ends, failing, looks, nothing, ran, ran_with,
+};
 use chew_outside::{Fails, MemSink, MemSource};
-use chew_plain::{Call, Entry};
-use chewing_cli::{Done, chewing};
-use std::alloc::{AllocError, Global};
-use std::process::Abort;
+use chewing_cli::chewing;
 use std::test::Fail;
-
-/// 測, 策, 是, 試 and 測試.
-const FIVE_ROWS: &str = "測 100 ㄘㄜˋ\n策 200 ㄘㄜˋ\n是 9000 ㄕˋ\n試 300 ㄕˋ\n測試 9318 ㄘㄜˋ ㄕˋ\n";
-
-/// What `hk4g4<E>` prints over them.
-const TWO_SYLLABLES: &str =
-    "context 1\n\t0\tㄘ\t\t\t\n\t0\tㄘㄜ\t\t\t\n策\t2\t\t\t\t\n策\t2\tㄕ\t\t\t\n測試\t4\t\t\t\t\n\t0\t\t測試\t\t\n";
-
-const WORDS: [&str; 4] = ["run", "system", "script", "folder"];
-
-/// A run over these texts, and the sink that it wrote to.
-fn ran(alloc: Global, system: &str, script: &str) -> Result<(Done, MemSink), AllocError> {
-    let mut system = MemSource::of(system.as_bytes().to_vec(alloc)?, 4096, Fails::never(alloc));
-    let mut script = MemSource::of(script.as_bytes().to_vec(alloc)?, 4096, Fails::never(alloc));
-    let mut sink = MemSink::of(alloc, Fails::never(alloc));
-    let done = chewing(alloc, &WORDS, &mut system, &mut script, &mut sink);
-    Ok((done, sink))
-}
-
-/// The run ends with this status, this output and these numbers of handled keys, one for each context.
-fn ends(rt: &impl Abort, run: &(Done, MemSink), status: u8, output: &str, handled: &[u32]) {
-    assert_eq!(rt; run.0.status, status);
-    assert_eq!(rt; run.1.bytes(), output.as_bytes());
-    assert_eq!(rt; run.0.handled.as_slice(), handled);
-}
-
-/// The codes of the look-ups of a journal, each with the number of who made it.
-fn looks(rt: &impl Abort, entry: &Entry, who: u32, codes: &[u16]) {
-    assert_eq!(rt; entry.who, who);
-    match &entry.call {
-        Call::Look(run) => {
-            assert_eq!(rt; run.list().len(), codes.len());
-            for (syllable, code) in run.list().iter().zip(codes) {
-                assert_eq!(rt; syllable.code(), *code);
-            }
-        }
-    }
-}
 
 #[test]
 fn two_syllables_and_enter(rt: HostRuntime) -> Result<(), Fail> {
-    let run = ran(rt.alloc(), FIVE_ROWS, "1:hk4g4<E>\n")?;
-    ends(&rt, &run, 0, TWO_SYLLABLES, &[6]);
-    assert_eq!(rt; run.0.journal.len(), 2);
-    looks(&rt, &run.0.journal[0], 1, &[10268]);
-    looks(&rt, &run.0.journal[1], 1, &[10268, 8708]);
+    let run = ran(rt.alloc(), FIVE_ROWS, TWO_SYLLABLES)?;
+    ends(&rt, &run, 0, TWO_SYLLABLES_PRINTED, &[6]);
+    looks(
+        &rt,
+        run.0.journal.as_slice(),
+        &[(1, &[10268]), (1, &[10268, 8708])],
+    );
     Ok(())
 }
 
@@ -121,11 +84,8 @@ fn backspace_erases_in_the_layout(rt: HostRuntime) -> Result<(), Fail> {
 #[test]
 fn one_byte_a_read_gives_the_same(rt: HostRuntime) -> Result<(), Fail> {
     let alloc = rt.alloc();
-    let mut system = MemSource::of(FIVE_ROWS.as_bytes().to_vec(alloc)?, 1, Fails::never(alloc));
-    let mut script = MemSource::of(b"1:hk4g4<E>\n".to_vec(alloc)?, 1, Fails::never(alloc));
-    let mut sink = MemSink::of(alloc, Fails::never(alloc));
-    let done = chewing(alloc, &WORDS, &mut system, &mut script, &mut sink);
-    ends(&rt, &(done, sink), 0, TWO_SYLLABLES, &[6]);
+    let run = ran_with(alloc, FIVE_ROWS, TWO_SYLLABLES, 1, nothing(alloc))?;
+    ends(&rt, &run, 0, TWO_SYLLABLES_PRINTED, &[6]);
     Ok(())
 }
 
@@ -145,18 +105,10 @@ fn a_line_with_no_key_prints_the_header(rt: HostRuntime) -> Result<(), Fail> {
 
 #[test]
 fn a_source_that_fails_is_told(rt: HostRuntime) -> Result<(), Fail> {
-    let alloc = rt.alloc();
-    let mut at = Vec::new(alloc);
-    at.push(1)?;
-    let mut system = MemSource::of(
-        FIVE_ROWS.as_bytes().to_vec(alloc)?,
-        4096,
-        Fails { at, from: None },
-    );
-    let mut script = MemSource::of(b"1:hk4\n".to_vec(alloc)?, 4096, Fails::never(alloc));
-    let mut sink = MemSink::of(alloc, Fails::never(alloc));
-    let done = chewing(alloc, &WORDS, &mut system, &mut script, &mut sink);
-    ends(&rt, &(done, sink), 7, "source\n", &[]);
+    let mut plan = nothing(rt.alloc());
+    plan.system = failing(rt.alloc(), 1, true)?;
+    let run = ran_with(rt.alloc(), FIVE_ROWS, "1:hk4\n", 4096, plan)?;
+    ends(&rt, &run, 7, "source\n", &[]);
     Ok(())
 }
 

@@ -1,44 +1,49 @@
-//! Known syllables of the layouts, through the type of any layout.
+//! Known syllables of each layout. The codes are `initial * 512 + medial * 128 + final * 8 + tone`.
 
-use chew_layouts::{Kind, Layout};
-use chew_syllable::Step;
+use crate::steps::{Typed, types};
+use chew_layouts::Kind;
 
-/// What the last of these keys does, on a layout that held nothing.
-fn last_step(kind: Kind, keys: &[u8]) -> Step {
-    let mut layout = Layout::of(kind);
-    let mut step = Step::NotMine;
-    for key in keys {
-        step = layout.feed(*key);
-    }
-    step
-}
+/// The syllables of each layout.
+const KNOWN: [(Kind, &[Typed]); 5] = [
+    (Kind::Standard, &[(b"hk4", b"kkw", 10268, "ㄘㄜˋ")]),
+    (Kind::Eten, &[(b";r4", b"kkw", 9756, "ㄗㄜˋ")]),
+    (
+        Kind::Hsu,
+        &[
+            (b"jej", b"kkw", 6276, "ㄐㄧˋ"),
+            (b"jj", b"kw", 7684, "ㄓˋ"),
+            (b"agj", b"kkw", 10268, "ㄘㄜˋ"),
+            (b"lf", b"kw", 107, "ㄦˇ"),
+            (b"jxl ", b"kkkw", 8032, "ㄓㄨㄥ"),
+        ],
+    ),
+    (
+        Kind::Et26,
+        &[
+            (b"wrk", b"kkw", 10268, "ㄘㄜˋ"),
+            (b"g ", b"kw", 7680, "ㄓ"),
+            (b"ge ", b"kkw", 6272, "ㄐㄧ"),
+        ],
+    ),
+    (
+        Kind::Pinyin,
+        &[
+            (b"lv4", b"kkw", 4484, "ㄌㄩˋ"),
+            (b"xu2", b"kkw", 7554, "ㄒㄩˊ"),
+            (b"zhi1", b"kkkw", 7680, "ㄓ"),
+            (b"ce4", b"kkw", 10268, "ㄘㄜˋ"),
+        ],
+    ),
+];
 
 #[test]
 fn keys_make_known_syllables(rt: HostRuntime) {
-    let cases: [(Kind, &[u8], u16); 13] = [
-        (Kind::Eten, b";r4", 9756),
-        (Kind::Hsu, b"jej", 6276),
-        (Kind::Hsu, b"jj", 7684),
-        (Kind::Hsu, b"agj", 10268),
-        (Kind::Hsu, b"lf", 107),
-        (Kind::Hsu, b"jxl ", 8032),
-        (Kind::Et26, b"wrk", 10268),
-        (Kind::Et26, b"g ", 7680),
-        (Kind::Et26, b"ge ", 6272),
-        (Kind::Pinyin, b"lv4", 4484),
-        (Kind::Pinyin, b"xu2", 7554),
-        (Kind::Pinyin, b"zhi1", 7680),
-        (Kind::Pinyin, b"ce4", 10268),
-    ];
-    for (kind, keys, code) in cases {
-        match last_step(kind, keys) {
-            Step::Whole(syllable) => assert_eq!(rt; syllable.code(), code),
-            _ => assert!(rt; false),
-        }
+    for (kind, rows) in &KNOWN {
+        types(&rt, *kind, rows);
     }
 }
 
 #[test]
 fn an_initial_alone_is_refused(rt: HostRuntime) {
-    assert_eq!(rt; last_step(Kind::Hsu, b"b "), Step::Refused);
+    types(&rt, Kind::Hsu, &[(b"b ", b"kr", 0, "")]);
 }

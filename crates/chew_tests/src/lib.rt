@@ -26,4 +26,12 @@ mod limits;
 #[cfg(test)]
 mod phrasing;
 #[cfg(test)]
+mod runs;
+#[cfg(test)]
+mod script_faults;
+#[cfg(test)]
+mod script_lines;
+#[cfg(test)]
 mod script_text;
+#[cfg(test)]
+mod steps;
