@@ -5,7 +5,13 @@ use chew_layouts::Kind;
 
 #[test]
 fn hsu(rt: HostRuntime) {
-    let cases: [(&[u8], &[u8], u16); 22] = [
+    let cases: [(&[u8], &[u8], u16); 28] = [
+        (b"jej", b"kkw", 6276),
+        (b"jj", b"kw", 7684),
+        (b"agj", b"kkw", 10268),
+        (b"lf", b"kw", 107),
+        (b"jxl ", b"kkkw", 8032),
+        (b"b ", b"kr", 0),
         (b"vxm ", b"kkkw", 8520),
         (b"cenj", b"kkkw", 7380),
         (b"ll ", b"kkw", 4192),
