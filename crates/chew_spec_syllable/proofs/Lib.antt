@@ -3,3 +3,4 @@ pub mod Marks
 pub mod Reading
 pub mod Order
 pub mod PhraseEnd
+pub mod Apart

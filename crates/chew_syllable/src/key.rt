@@ -1,14 +1,21 @@
 ghost use Rattle.std.specs.Prelude.{◌≡◌, ◌≤◌, ◌↔◌, length, IsSome, IfSome, OnSome, IsTrue};
 ghost use Rattle.chew_spec_syllable.specs.Key.{is_key, is_run};
 
+use crate::arrays::array_of;
 use crate::syllable::{Syllable, all_are_syllables};
 use arrayvec::ArrayVec;
 use std::marker::Model;
 
+/// The most syllables of a key.
+pub const KEY_LIMIT: usize = 11;
+
+/// The most syllables of a run.
+pub const RUN_LIMIT: usize = 39;
+
 /// 1 to 11 syllables, under which a dictionary holds phrases.
 #[derive(Debug, Drop)]
 pub struct Key {
-    syllables: ArrayVec<Syllable, 11>,
+    syllables: ArrayVec<Syllable, KEY_LIMIT>,
 }
 
 impl Model for Key {
@@ -33,10 +40,8 @@ impl Key {
             return None;
         }
         all_are_syllables(syllables);
-        match ArrayVec::try_from(syllables) {
-            Ok(syllables) => Some(Key { syllables }),
-            Err(_) => None,
-        }
+        let syllables = ArrayVec::try_from(syllables).ok()?;
+        Some(Key { syllables })
     }
 
     /// How many syllables it has, 1 to 11.
@@ -58,9 +63,8 @@ impl Key {
     pub fn copy(&self) -> Key
         ensures { result ≡ self.now }
     {
-        match ArrayVec::try_from(self.syllables.as_slice()) {
-            Ok(syllables) => Key { syllables },
-            Err(_) => unreachable!(),
+        Key {
+            syllables: array_of(self.syllables.as_slice()),
         }
     }
 }
@@ -68,7 +72,7 @@ impl Key {
 /// 0 to 39 syllables that are looked up as a whole.
 #[derive(Debug, Drop)]
 pub struct Run {
-    syllables: ArrayVec<Syllable, 39>,
+    syllables: ArrayVec<Syllable, RUN_LIMIT>,
 }
 
 impl Model for Run {
@@ -90,10 +94,8 @@ impl Run {
         ensures valid { OnSome result (IsTrue (is_run syllables.now)) }
     {
         all_are_syllables(syllables);
-        match ArrayVec::try_from(syllables) {
-            Ok(syllables) => Some(Run { syllables }),
-            Err(_) => None,
-        }
+        let syllables = ArrayVec::try_from(syllables).ok()?;
+        Some(Run { syllables })
     }
 
     /// The syllables, in order.
@@ -108,9 +110,8 @@ impl Run {
     pub fn copy(&self) -> Run
         ensures { result ≡ self.now }
     {
-        match ArrayVec::try_from(self.syllables.as_slice()) {
-            Ok(syllables) => Run { syllables },
-            Err(_) => unreachable!(),
+        Run {
+            syllables: array_of(self.syllables.as_slice()),
         }
     }
 }

@@ -2,11 +2,12 @@ ghost use Rattle.std.specs.Prelude.{◌≡◌, ℕ, suc, ◌+◌, ◌-◌, ◌<�
 ghost use Rattle.chew_spec_syllable.specs.Phrase.{is_allowed, is_phrase, phrase_end};
 ghost use Rattle.chew_syllable.specs.Front.{IsValidFront, allowed_bytes};
 
+use crate::arrays::string_of;
 use arrayvec::ArrayString;
 use std::marker::Model;
 
 /// The most characters of a phrase.
-const CHARACTER_LIMIT: usize = 11;
+pub const CHARACTER_LIMIT: usize = 11;
 
 /// The least character that may stand in a phrase.
 const FIRST_ALLOWED: char = '\u{A1}';
@@ -104,10 +105,7 @@ impl Phrase {
         if place == 0 || place < text.len() {
             return Err(BadPhrase { place });
         }
-        match ArrayString::from(front) {
-            Ok(text) => Ok(Phrase { text }),
-            Err(_) => unreachable!(),
-        }
+        Ok(Phrase::of(front))
     }
 
     /// The phrase of a text that is one. It takes no memory.
@@ -115,9 +113,8 @@ impl Phrase {
         requires { IsTrue (is_phrase text.now) }
         ensures { result ≡ text.now }
     {
-        match ArrayString::from(text) {
-            Ok(text) => Phrase { text },
-            Err(_) => unreachable!(),
+        Phrase {
+            text: string_of(text),
         }
     }
 
@@ -142,9 +139,6 @@ impl Phrase {
     pub fn copy(&self) -> Phrase
         ensures { result ≡ self.now }
     {
-        match ArrayString::from(self.text.as_str()) {
-            Ok(text) => Phrase { text },
-            Err(_) => unreachable!(),
-        }
+        Phrase::of(self.text.as_str())
     }
 }

@@ -3,23 +3,17 @@ ghost use Rattle.std.specs.List.{range_with_len};
 ghost use Rattle.chew_syllable.specs.Front.{Reads, block_byte, tone_byte};
 ghost use Rattle.chew_spec_syllable.specs.SyllableText.{tone_marks, front_parts, after_parts, code_reading};
 
-use crate::parts::Parts;
+use crate::parts::{LAST_FINAL, LAST_INITIAL, LAST_MEDIAL, Parts};
 use crate::syllable::{BadSyllable, Syllable};
 
 /// The place of ㄅ in Unicode's block Bopomofo, from which the initials follow one another.
 const FIRST_INITIAL: u8 = 0x05;
 
-const INITIAL_COUNT: u8 = 21;
-
 /// The place of ㄚ, from which the finals follow one another.
 const FIRST_FINAL: u8 = 0x1A;
 
-const FINAL_COUNT: u8 = 13;
-
 /// The place of ㄧ, from which the medials follow one another.
 const FIRST_MEDIAL: u8 = 0x27;
-
-const MEDIAL_COUNT: u8 = 3;
 
 /// The number of the mark that a text begins with, 0 where it begins with none of its kind, and what follows.
 #[derive(Drop)]
@@ -118,15 +112,15 @@ fn read_parts(text: &[u8]) -> FrontParts<'_>
     ensures rest { result.rest.now ≡ after_parts text.now }
     ensures shorter { length result.rest.now ≤ length text.now }
 {
-    let initial = read_block(text, FIRST_INITIAL, INITIAL_COUNT);
-    let medial = read_block(initial.rest, FIRST_MEDIAL, MEDIAL_COUNT);
-    let rime = read_block(medial.rest, FIRST_FINAL, FINAL_COUNT);
-    let tone = read_tone(rime.rest);
+    let initial = read_block(text, FIRST_INITIAL, LAST_INITIAL);
+    let medial = read_block(initial.rest, FIRST_MEDIAL, LAST_MEDIAL);
+    let final_ = read_block(medial.rest, FIRST_FINAL, LAST_FINAL);
+    let tone = read_tone(final_.rest);
     FrontParts {
         parts: Parts {
             initial: initial.number,
             medial: medial.number,
-            rime: rime.number,
+            final_: final_.number,
             tone: tone.number,
         },
         rest: tone.rest,

@@ -4,6 +4,9 @@ use crate::key::Key;
 use crate::phrase::Phrase;
 use std::marker::Model;
 
+/// The greatest frequency of a row.
+pub const GREATEST_FREQ: u32 = 99_999_999;
+
 /// A phrase under its key, with as many characters as the key has syllables.
 #[derive(Debug, Drop)]
 pub struct KeyRow {

@@ -1,5 +1,11 @@
 use crate::syllable::Syllable;
 
+/// The key Space, which ends a syllable in the first tone.
+pub const SPACE: u8 = b' ';
+
+/// The key Backspace, which takes the last part or letter.
+pub const BACKSPACE: u8 = 8;
+
 /// What a key did to a layout.
 #[derive(Clone, Copy, Debug, PartialEq, Eq)]
 pub enum Step {

@@ -1,7 +1,8 @@
 ghost use Rattle.std.specs.Prelude.{◌≡◌, SomeIff, IsTrue};
 ghost use Rattle.std.specs.List.{list_all};
-ghost use Rattle.chew_spec_syllable.specs.Syllable.{is_code};
+ghost use Rattle.chew_spec_syllable.specs.Syllable.{code_of, is_code, is_syllable, parts_of};
 
+use crate::parts::Parts;
 use std::marker::Model;
 
 /// A syllable of Zhuyin, by its code.
@@ -24,6 +25,8 @@ impl Model for Syllable {
 }
 
 impl Default for Syllable {
+    ghost is_default = { λ s. s ≡ 8 };
+
     /// ㄚ in the first tone, since some syllable has to fill unused places.
     fn default() -> Self {
         Syllable { code: 8 }
@@ -42,14 +45,20 @@ impl Syllable {
     pub fn from_code(code: u16) -> Option<Syllable>
         ensures { SomeIff result (IsTrue (is_code code)) code }
     {
-        let initial = code / 512;
-        let medial = code / 128 % 4;
-        let rime = code / 8 % 16;
-        let tone = code % 8;
-        if initial > 21 || medial > 3 || rime > 13 || tone > 4 || initial + medial + rime == 0 {
+        if !Parts::of_code(code).are_syllable() {
             return None;
         }
         Some(Syllable { code })
+    }
+
+    /// The syllable of these parts; `None` where a part is out of its range, or there is none besides the tone.
+    pub fn of(parts: Parts) -> Option<Syllable>
+        ensures { SomeIff result (IsTrue (is_syllable parts)) (code_of parts) }
+    {
+        if !parts.are_syllable() {
+            return None;
+        }
+        Syllable::from_code(parts.code())
     }
 
     /// `initial * 512 + medial * 128 + final * 8 + tone`.
@@ -59,9 +68,18 @@ impl Syllable {
     {
         self.code
     }
+
+    /// The parts of the syllable.
+    pub fn parts(self) -> Parts
+        ensures value { result ≡ parts_of self }
+        ensures valid { IsTrue (is_syllable result) }
+    {
+        Parts::of_code(self.code())
+    }
 }
 
-/// What every syllable keeps holds of each of these. It does nothing, and is there for proofs alone.
+/// What every syllable keeps holds of each of these. It does nothing: the prover learns what a value keeps only where the
+/// value is used, and doesn't know it of a whole list.
 pub(crate) fn all_are_syllables(syllables: &[Syllable])
     ensures { IsTrue (list_all is_code syllables.now) }
 {

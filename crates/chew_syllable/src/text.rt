@@ -79,14 +79,14 @@ impl Parts {
     pub fn text(self) -> ArrayString<11>
         requires initial { self.initial ≤ 21 }
         requires medial { self.medial ≤ 3 }
-        requires rime { self.final ≤ 13 }
+        requires finals { self.final ≤ 13 }
         requires tone { self.tone ≤ 4 }
         ensures { result.bytes ≡ text_of self }
     {
         let mut text = ArrayString::new();
         push_initial(&mut text, self.initial);
         push_medial(&mut text, self.medial);
-        push_final(&mut text, self.rime);
+        push_final(&mut text, self.final_);
         push_tone(&mut text, self.tone);
         text
     }

@@ -1,6 +1,6 @@
 -- By the order of lists of numbers.
 use Rattle.chew_spec_syllable.proofs.Order.{image_order, image_is, equal_pair, pair_equal}
-use Rattle.chew_spec_syllable.proofs.laws.image_order.Goals as goal
+use Rattle.chew_spec_syllable.proofs.laws.row.image_order.Goals as goal
 
 pub returns : goal.returns
 returns c = record {
