@@ -1,6 +1,9 @@
 ghost use Rattle.std.specs.Prelude.{◌≡◌, length};
 ghost use Rattle.chew_spec_layout.specs.Letters.{letter_columns};
-ghost use Rattle.chew_layout_26.specs.Kinds.{letters_of};
+ghost use Rattle.chew_syllable.specs.Columns.{columns_in};
+ghost use Rattle.chew_layout_26.specs.Kinds.{kind_of};
+
+use chew_syllable::Columns;
 
 /// A layout in which each key is a letter, and a letter may stand for several parts of a syllable or for a tone.
 #[derive(Clone, Copy, Debug, PartialEq, Eq)]
@@ -12,44 +15,27 @@ pub enum Letters {
 }
 
 impl Letters {
-    /// The letters of the initials, in the order of their numbers.
-    pub(crate) fn initials(self) -> &'static [u8]
-        ensures value { result.now ≡ (letter_columns (letters_of self)).initials }
-        ensures count { length result.now ≡ 21 }
+    /// The letters of the layout.
+    pub(crate) fn columns(self) -> Columns
+        ensures value { columns_in result ≡ letter_columns (kind_of self) }
+        ensures initials { length result.initials.now ≡ 21 }
+        ensures medials { length result.medials.now ≡ 3 }
+        ensures finals { length result.finals.now ≡ 13 }
+        ensures tones { length result.tones.now ≡ 4 }
     {
         match self {
-            Letters::Hsu => b"bpmfdtnlgkhjvcjvcrzas",
-            Letters::Et26 => b"bpmfdtnlvkhgvcgycjqws",
-        }
-    }
-
-    /// The letters of the medials, in the order of their numbers.
-    pub(crate) fn medials(self) -> &'static [u8]
-        ensures value { result.now ≡ (letter_columns (letters_of self)).medials }
-        ensures count { length result.now ≡ 3 }
-    {
-        b"exu"
-    }
-
-    /// The letters of the finals, in the order of their numbers.
-    pub(crate) fn finals(self) -> &'static [u8]
-        ensures value { result.now ≡ (letter_columns (letters_of self)).finals }
-        ensures count { length result.now ≡ 13 }
-    {
-        match self {
-            Letters::Hsu => b"yhgeiawomnkll",
-            Letters::Et26 => b"aorwiqzpmntlh",
-        }
-    }
-
-    /// The letters of the tones, in the order of their numbers.
-    pub(crate) fn tones(self) -> &'static [u8]
-        ensures value { result.now ≡ (letter_columns (letters_of self)).tones }
-        ensures count { length result.now ≡ 4 }
-    {
-        match self {
-            Letters::Hsu => b"sdfj",
-            Letters::Et26 => b"dfjk",
+            Letters::Hsu => Columns {
+                initials: b"bpmfdtnlgkhjvcjvcrzas",
+                medials: b"exu",
+                finals: b"yhgeiawomnkll",
+                tones: b"sdfj",
+            },
+            Letters::Et26 => Columns {
+                initials: b"bpmfdtnlvkhgvcgycjqws",
+                medials: b"exu",
+                finals: b"aorwiqzpmntlh",
+                tones: b"dfjk",
+            },
         }
     }
 }

@@ -6,8 +6,6 @@ mod numbers;
 mod raw_26;
 mod reading;
 mod taken;
-#[cfg(test)]
-mod tests;
 mod turn;
 
 pub use columns::Letters;

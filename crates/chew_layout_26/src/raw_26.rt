@@ -1,55 +1,40 @@
 ghost use Rattle.std.specs.Prelude.{◌≡◌, ◌≤◌, [], IsTrue, length, nat_lt};
-ghost use Rattle.std.specs.Str.{IsUtf8};
 ghost use Rattle.chew_spec_layout.specs.Letters.{are_held_letters, fed_letters, letter_columns};
 ghost use Rattle.chew_syllable.specs.Step.{step_of};
-ghost use Rattle.chew_layout_26.specs.Kinds.{letters_of};
+ghost use Rattle.chew_layout_26.specs.Kinds.{kind_of};
 
 use crate::columns::Letters;
 use crate::turn::fed;
 use arrayvec::{ArrayString, ArrayVec};
-use chew_syllable::Step;
+use chew_syllable::{Step, array_of, text_of};
 use std::marker::Model;
 
 /// Hsu or ET26, with at most three letters that were typed.
 #[derive(Debug, Drop)]
 pub struct Raw26 {
-    letters: Letters,
+    kind: Letters,
     held: ArrayVec<u8, 3>,
 }
 
 impl Model for Raw26 {
     ghost use Rattle.std.specs.Prelude.{IsTrue};
     ghost use Rattle.chew_spec_layout.specs.Letters.{Lettered, are_held_letters, letter_columns};
-    ghost use Rattle.chew_layout_26.specs.Kinds.{letters_of};
+    ghost use Rattle.chew_layout_26.specs.Kinds.{kind_of};
 
     ghost Value = { Lettered };
 
-    ghost view = { λ a. record { letters = letters_of a.letters; held = a.held.items } };
+    ghost view = { λ a. record { kind = kind_of a.kind; held = a.held.items } };
 
-    ghost invariant = { λ a. IsTrue (are_held_letters (letter_columns (letters_of a.letters)) a.held.items) };
-}
-
-/// The text of at most three letters.
-fn text_of(letters: &[u8]) -> ArrayString<12>
-    requires count { length letters.now ≤ 3 }
-    requires text { IsUtf8 letters.now }
-    ensures { result.bytes ≡ letters.now }
-{
-    let mut text = ArrayString::new();
-    match str::from_utf8(letters) {
-        Ok(letters) => text.push_str(letters),
-        Err(_) => unreachable!(),
-    }
-    text
+    ghost invariant = { λ a. IsTrue (are_held_letters (letter_columns (kind_of a.kind)) a.held.items) };
 }
 
 impl Raw26 {
     /// A layout of this kind that holds nothing.
     pub fn of(kind: Letters) -> Raw26
-        ensures { result ≡ record { letters = letters_of kind; held = [] } }
+        ensures { result ≡ record { kind = kind_of kind; held = [] } }
     {
         Raw26 {
-            letters: kind,
+            kind,
             held: ArrayVec::new(),
         }
     }
@@ -57,11 +42,11 @@ impl Raw26 {
     /// Takes a key, given as its character in ASCII, or 8 for Backspace.
     #[tactic(auto, using(chew_spec_layout::proofs::Lettered::stays))]
     pub fn feed(&mut self, key: u8) -> Step
-        ensures step { step_of result ≡ (fed_letters (letter_columns self.old.letters) self.old.held key).step }
-        ensures held { self.new ≡ record self.old { held = (fed_letters (letter_columns self.old.letters) self.old.held key).held } }
-        ensures valid { IsTrue (are_held_letters (letter_columns self.new.letters) self.new.held) }
+        ensures step { step_of result ≡ (fed_letters (letter_columns self.old.kind) self.old.held key).step }
+        ensures held { self.new ≡ record self.old { held = (fed_letters (letter_columns self.old.kind) self.old.held key).held } }
+        ensures valid { IsTrue (are_held_letters (letter_columns self.new.kind) self.new.held) }
     {
-        fed(self.letters, &mut self.held, key)
+        fed(self.kind, &mut self.held, key)
     }
 
     /// Lets go of what it holds.
@@ -74,7 +59,7 @@ impl Raw26 {
     /// Whether it holds a letter.
     pub fn holds(&self) -> bool
         ensures value { result ≡ nat_lt 0 (length self.now.held) }
-        ensures valid { IsTrue (are_held_letters (letter_columns self.now.letters) self.now.held) }
+        ensures valid { IsTrue (are_held_letters (letter_columns self.now.kind) self.now.held) }
     {
         !self.held.is_empty()
     }
@@ -91,12 +76,9 @@ impl Raw26 {
     pub fn copy(&self) -> Raw26
         ensures { result ≡ self.now }
     {
-        match ArrayVec::try_from(self.held.as_slice()) {
-            Ok(held) => Raw26 {
-                letters: self.letters,
-                held,
-            },
-            Err(_) => unreachable!(),
+        Raw26 {
+            kind: self.kind,
+            held: array_of(self.held.as_slice()),
         }
     }
 }

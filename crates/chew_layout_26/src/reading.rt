@@ -3,12 +3,12 @@ ghost use Rattle.std.specs.List.{last_or};
 ghost use Rattle.std.specs.Option.{option_map_or};
 ghost use Rattle.chew_spec_layout.specs.Letters.{final_of, fits, initial_of, is_final_alone, is_front, is_palatal, is_reading, letter_columns, parts_taken, reading_of};
 ghost use Rattle.chew_spec_layout.specs.Table.{number_of};
-ghost use Rattle.chew_layout_26.specs.Kinds.{letters_of};
+ghost use Rattle.chew_layout_26.specs.Kinds.{kind_of};
 
 use crate::columns::Letters;
-use crate::numbers::{number_of, numbers_of};
+use crate::numbers::numbers_of;
 use crate::taken::{Taken, fits, takings};
-use chew_syllable::Parts;
+use chew_syllable::{Parts, number_of};
 
 /// Whether the initial is ㄐ, ㄑ or ㄒ.
 fn is_palatal(initial: u8) -> bool
@@ -45,13 +45,13 @@ fn first_before(medial: u8, initials: &[u8]) -> Option<&u8>
 }
 
 /// The initial that a letter stands for before this medial.
-fn initial_of(letters: Letters, medial: u8, letter: u8) -> u8
-    ensures { result ≡ initial_of (letter_columns (letters_of letters)) medial letter }
+fn initial_of(kind: Letters, medial: u8, letter: u8) -> u8
+    ensures { result ≡ initial_of (letter_columns (kind_of kind)) medial letter }
 {
-    let numbers = numbers_of(letters.initials(), letter);
+    let numbers = numbers_of(kind.columns().initials, letter);
     match first_before(medial, numbers.as_slice()) {
         Some(initial) => *initial,
-        None => number_of(letters.initials(), letter),
+        None => number_of(kind.columns().initials, letter),
     }
 }
 
@@ -64,13 +64,13 @@ fn last_of(numbers: &[u8]) -> Option<&u8>
 }
 
 /// The final that a letter stands for, alone or behind others.
-fn final_of(letters: Letters, alone: bool, letter: u8) -> u8
-    ensures { result ≡ final_of (letter_columns (letters_of letters)) alone letter }
+fn final_of(kind: Letters, alone: bool, letter: u8) -> u8
+    ensures { result ≡ final_of (letter_columns (kind_of kind)) alone letter }
 {
     if !alone {
-        return number_of(letters.finals(), letter);
+        return number_of(kind.columns().finals, letter);
     }
-    let numbers = numbers_of(letters.finals(), letter);
+    let numbers = numbers_of(kind.columns().finals, letter);
     match last_of(numbers.as_slice()) {
         Some(last) => *last,
         None => 0,
@@ -78,31 +78,31 @@ fn final_of(letters: Letters, alone: bool, letter: u8) -> u8
 }
 
 /// The number of the initial; 0 where no letter is taken for one.
-fn initial_taken(letters: Letters, medial: u8, letter: Option<u8>) -> u8
-    ensures { result ≡ option_map_or (initial_of (letter_columns (letters_of letters)) medial) letter 0 }
+fn initial_taken(kind: Letters, medial: u8, letter: Option<u8>) -> u8
+    ensures { result ≡ option_map_or (initial_of (letter_columns (kind_of kind)) medial) letter 0 }
 {
     match letter {
-        Some(letter) => initial_of(letters, medial, letter),
+        Some(letter) => initial_of(kind, medial, letter),
         None => 0,
     }
 }
 
 /// The number of the medial; 0 where no letter is taken for one.
-fn medial_taken(letters: Letters, letter: Option<u8>) -> u8
-    ensures { result ≡ option_map_or (number_of (letter_columns (letters_of letters)).medials) letter 0 }
+fn medial_taken(kind: Letters, letter: Option<u8>) -> u8
+    ensures { result ≡ option_map_or (number_of (letter_columns (kind_of kind)).medials) letter 0 }
 {
     match letter {
-        Some(letter) => number_of(letters.medials(), letter),
+        Some(letter) => number_of(kind.columns().medials, letter),
         None => 0,
     }
 }
 
 /// The number of the final; 0 where no letter is taken for one.
-fn final_taken(letters: Letters, alone: bool, letter: Option<u8>) -> u8
-    ensures { result ≡ option_map_or (final_of (letter_columns (letters_of letters)) alone) letter 0 }
+fn final_taken(kind: Letters, alone: bool, letter: Option<u8>) -> u8
+    ensures { result ≡ option_map_or (final_of (letter_columns (kind_of kind)) alone) letter 0 }
 {
     match letter {
-        Some(letter) => final_of(letters, alone, letter),
+        Some(letter) => final_of(kind, alone, letter),
         None => 0,
     }
 }
@@ -115,14 +115,14 @@ fn is_final_alone(taken: Taken) -> bool
 }
 
 /// The parts that letters stand for, so taken.
-fn parts_taken(letters: Letters, taken: Taken) -> Parts
-    ensures { result ≡ parts_taken (letter_columns (letters_of letters)) taken }
+fn parts_taken(kind: Letters, taken: Taken) -> Parts
+    ensures { result ≡ parts_taken (letter_columns (kind_of kind)) taken }
 {
-    let medial = medial_taken(letters, taken.medial);
+    let medial = medial_taken(kind, taken.medial);
     Parts {
-        initial: initial_taken(letters, medial, taken.initial),
+        initial: initial_taken(kind, medial, taken.initial),
         medial,
-        rime: final_taken(letters, is_final_alone(taken), taken.rime),
+        final_: final_taken(kind, is_final_alone(taken), taken.final_),
         tone: 0,
     }
 }
@@ -131,24 +131,24 @@ fn parts_taken(letters: Letters, taken: Taken) -> Parts
 fn is_reading(parts: Parts) -> bool
     ensures { result ≡ is_reading parts }
 {
-    parts.medial > 0 || parts.rime > 0 || parts.initial >= 15
+    parts.medial > 0 || parts.final_ > 0 || parts.initial >= 15
 }
 
 /// The first of these that fits and is a reading.
-fn first_reading(letters: Letters, takings: &[Taken]) -> Option<Parts>
-    ensures { result ≡ find is_reading (map (parts_taken (letter_columns (letters_of letters))) (filter (fits (letter_columns (letters_of letters))) takings.now)) }
+fn first_reading(kind: Letters, takings: &[Taken]) -> Option<Parts>
+    ensures { result ≡ find is_reading (map (parts_taken (letter_columns (kind_of kind))) (filter (fits (letter_columns (kind_of kind))) takings.now)) }
 {
     takings
         .iter()
-        .filter(|taken| fits(letters, **taken))
-        .map(|taken| parts_taken(letters, *taken))
+        .filter(|taken| fits(kind, **taken))
+        .map(|taken| parts_taken(kind, *taken))
         .find(|parts| is_reading(*parts))
 }
 
 /// What the held letters are read as.
 #[tactic(auto, unfolding(chew_spec_layout::specs::Letters::reading_of))]
-pub(crate) fn reading_of(letters: Letters, held: &[u8]) -> Option<Parts>
-    ensures { result ≡ reading_of (letter_columns (letters_of letters)) held.now }
+pub(crate) fn reading_of(kind: Letters, held: &[u8]) -> Option<Parts>
+    ensures { result ≡ reading_of (letter_columns (kind_of kind)) held.now }
 {
-    first_reading(letters, takings(held).as_slice())
+    first_reading(kind, takings(held).as_slice())
 }

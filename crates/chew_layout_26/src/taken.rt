@@ -3,11 +3,11 @@ ghost use Rattle.std.specs.Bool.{OnTrue};
 ghost use Rattle.std.specs.Option.{option_map_or};
 ghost use Rattle.chew_spec_layout.specs.Table.{has_key};
 ghost use Rattle.chew_spec_layout.specs.Letters.{fits, letter_columns, takings};
-ghost use Rattle.chew_layout_26.specs.Kinds.{letters_of};
+ghost use Rattle.chew_layout_26.specs.Kinds.{kind_of};
 
 use crate::columns::Letters;
-use crate::numbers::has_key;
 use arrayvec::ArrayVec;
+use chew_syllable::has_key;
 use std::marker::Model;
 
 /// Which of the held letters is taken for which part.
@@ -15,7 +15,7 @@ use std::marker::Model;
 pub(crate) struct Taken {
     pub(crate) initial: Option<u8>,
     pub(crate) medial: Option<u8>,
-    pub(crate) rime: Option<u8>,
+    pub(crate) final_: Option<u8>,
 }
 
 impl Model for Taken {
@@ -23,19 +23,19 @@ impl Model for Taken {
 
     ghost Value = { TakenLetters };
 
-    ghost view = { λ t. record { initial = t.initial; medial = t.medial; final = t.rime } };
+    ghost view = { λ t. record { initial = t.initial; medial = t.medial; final = t.final_ } };
 
-    ghost inverse = { λ t. record { initial = t.initial; medial = t.medial; rime = t.final } };
+    ghost inverse = { λ t. record { initial = t.initial; medial = t.medial; final_ = t.final } };
 }
 
 /// Taken for an initial, a medial and a final, each where there is one.
-fn taking(initial: Option<u8>, medial: Option<u8>, rime: Option<u8>) -> Taken
-    ensures { result ≡ record { initial = initial; medial = medial; final = rime } }
+fn taking(initial: Option<u8>, medial: Option<u8>, final_: Option<u8>) -> Taken
+    ensures { result ≡ record { initial = initial; medial = medial; final = final_ } }
 {
     Taken {
         initial,
         medial,
-        rime,
+        final_,
     }
 }
 
@@ -72,41 +72,41 @@ fn fits_in(column: &[u8], letter: Option<u8>) -> bool
 }
 
 /// Whether each letter stands for a part of the kind that it is taken for.
-pub(crate) fn fits(letters: Letters, taken: Taken) -> bool
-    ensures { result ≡ fits (letter_columns (letters_of letters)) taken }
+pub(crate) fn fits(kind: Letters, taken: Taken) -> bool
+    ensures { result ≡ fits (letter_columns (kind_of kind)) taken }
 {
-    if !fits_in(letters.initials(), taken.initial) {
+    if !fits_in(kind.columns().initials, taken.initial) {
         return false;
     }
-    if !fits_in(letters.medials(), taken.medial) {
+    if !fits_in(kind.columns().medials, taken.medial) {
         return false;
     }
-    fits_in(letters.finals(), taken.rime)
+    fits_in(kind.columns().finals, taken.final_)
 }
 
 /// The first of these that fits.
-fn first_fit(letters: Letters, takings: &[Taken]) -> Option<&Taken>
-    ensures { option_copied result ≡ find (fits (letter_columns (letters_of letters))) takings.now }
+fn first_fit(kind: Letters, takings: &[Taken]) -> Option<&Taken>
+    ensures { option_copied result ≡ find (fits (letter_columns (kind_of kind))) takings.now }
 {
-    takings.iter().find(|taken| fits(letters, **taken))
+    takings.iter().find(|taken| fits(kind, **taken))
 }
 
 /// Whether some of these fit.
-fn some_fit(letters: Letters, takings: &[Taken]) -> bool
-    ensures { result ≡ is_some (find (fits (letter_columns (letters_of letters))) takings.now) }
+fn some_fit(kind: Letters, takings: &[Taken]) -> bool
+    ensures { result ≡ is_some (find (fits (letter_columns (kind_of kind))) takings.now) }
 {
-    first_fit(letters, takings).is_some()
+    first_fit(kind, takings).is_some()
 }
 
 /// Whether the held letters fit with one more.
-pub(crate) fn fits_with(letters: Letters, held: &[u8], key: u8) -> bool
-    ensures value { result ≡ is_some (find (fits (letter_columns (letters_of letters))) (takings (held.now ++ key ∷ []))) }
+pub(crate) fn fits_with(kind: Letters, held: &[u8], key: u8) -> bool
+    ensures value { result ≡ is_some (find (fits (letter_columns (kind_of kind))) (takings (held.now ++ key ∷ []))) }
     ensures room { OnTrue result (length held.now < 3) }
 {
     match held {
-        [] => some_fit(letters, takings(&[key]).as_slice()),
-        [a] => some_fit(letters, takings(&[*a, key]).as_slice()),
-        [a, b] => some_fit(letters, takings(&[*a, *b, key]).as_slice()),
+        [] => some_fit(kind, takings(&[key]).as_slice()),
+        [a] => some_fit(kind, takings(&[*a, key]).as_slice()),
+        [a, b] => some_fit(kind, takings(&[*a, *b, key]).as_slice()),
         _ => false,
     }
 }

@@ -11,8 +11,10 @@ use Rattle.chew_spec_syllable.specs.SyllableText.{front_parts, text_of, code_or_
 use Rattle.chew_spec_syllable.proofs.CodeParts.{InRange, in_range, parts_back}
 use Rattle.chew_spec_syllable.proofs.Reading.{text_read}
 use Rattle.chew_syllable.proofs.Marks.{initial_within, medial_within, final_within}
-use Rattle.chew_spec_layout.specs.Spelling.{Spelling, spelling_of, is_held_spelling, is_pinyin_letter}
-use Rattle.chew_spec_layout.specs.Spelled.{IsSpelled}
+use Rattle.chew_spec_layout.specs.Spelling.{Spelling}
+use Rattle.chew_spec_layout.specs.Spellings.{spelling_of}
+use Rattle.chew_spec_layout.specs.Pinyin.{is_held_spelling, is_pinyin_letter}
+use Rattle.chew_spec_layout.specs.SpellingKeys.{IsSpelled}
 use Rattle.chew_spec_layout.proofs.Spelling.{is_spelled, toned}
 
 -- the text is a spelling's marks, and is read as the syllable of its parts

@@ -4,8 +4,6 @@
 mod lookup;
 mod pinyin;
 mod tables;
-#[cfg(test)]
-mod tests;
 mod turn;
 
 pub use pinyin::Pinyin;

@@ -1,6 +1,7 @@
 ghost use Rattle.std.specs.Prelude.{◌≡◌, map, flat_map};
 ghost use Rattle.std.specs.Option.{option_map};
-ghost use Rattle.chew_spec_layout.specs.Spelling.{combined, joined, spelling_of};
+ghost use Rattle.chew_spec_layout.specs.Spelling.{combined, joined};
+ghost use Rattle.chew_spec_layout.specs.Spellings.{spelling_of};
 ghost use Rattle.chew_layout_pinyin.specs.Tables.{groups_of, marks_in, row_of, spelled_of, text_in, texts_in};
 
 use crate::tables::{Row, Spelled, rows};
@@ -55,7 +56,7 @@ fn in_row(row: Row, letters: &[u8]) -> Option<Marks>
 }
 
 /// The marks that the letters spell.
-#[tactic(auto, unfolding(chew_spec_layout::specs::Spelling::spelling_of))]
+#[tactic(auto, unfolding(chew_spec_layout::specs::Spellings::spelling_of))]
 pub(crate) fn marks_of(letters: &[u8]) -> Option<Marks>
     ensures { texts_in result ≡ option_map (λ spelling. spelling.marks) (spelling_of letters.now) }
 {

@@ -1,14 +1,11 @@
 ghost use Rattle.std.specs.Prelude.{◌≡◌, ◌≤◌, [], IsTrue, length, nat_lt};
-ghost use Rattle.chew_spec_layout.specs.Spelling.{fed_spelling, is_held_spelling, is_pinyin_letter, whole_spelling, with_spelling_letter};
+ghost use Rattle.chew_spec_layout.specs.Pinyin.{fed_spelling, is_held_spelling, is_pinyin_letter, whole_spelling, with_spelling_letter};
 ghost use Rattle.chew_syllable.specs.Step.{step_of};
 
 use crate::turn::{syllable_of, tone_of};
 use arrayvec::{ArrayString, ArrayVec};
-use chew_syllable::Step;
+use chew_syllable::{BACKSPACE, Step, array_of, text_of};
 use std::marker::Model;
-
-/// The key Backspace.
-const BACKSPACE: u8 = 8;
 
 /// Pinyin, with at most six letters that were typed.
 #[derive(Debug, Drop)]
@@ -18,7 +15,7 @@ pub struct Pinyin {
 
 impl Model for Pinyin {
     ghost use Rattle.std.specs.Prelude.{List, ℕ, IsTrue};
-    ghost use Rattle.chew_spec_layout.specs.Spelling.{is_held_spelling};
+    ghost use Rattle.chew_spec_layout.specs.Pinyin.{is_held_spelling};
 
     ghost Value = { List ℕ };
 
@@ -68,7 +65,7 @@ impl Pinyin {
     }
 
     /// Takes a key, given as its character in ASCII, or 8 for Backspace.
-    #[tactic(auto, unfolding(chew_spec_layout::specs::Spelling::fed_spelling))]
+    #[tactic(auto, unfolding(chew_spec_layout::specs::Pinyin::fed_spelling))]
     pub fn feed(&mut self, key: u8) -> Step
         ensures step { step_of result ≡ (fed_spelling self.old key).step }
         ensures held { self.new ≡ (fed_spelling self.old key).held }
@@ -106,24 +103,19 @@ impl Pinyin {
     }
 
     /// The letters that it holds.
+    #[tactic(auto, using(crate::proofs::Text::held_text))]
     pub fn shown(&self) -> ArrayString<12>
         ensures { result.bytes ≡ self.now }
     {
-        let mut shown = ArrayString::new();
-        match str::from_utf8(self.held.as_slice()) {
-            Ok(letters) => shown.push_str(letters),
-            Err(_) => unreachable!(),
-        }
-        shown
+        text_of(self.held.as_slice())
     }
 
     /// The same layout once more. It takes no memory.
     pub fn copy(&self) -> Pinyin
         ensures { result ≡ self.now }
     {
-        match ArrayVec::try_from(self.held.as_slice()) {
-            Ok(held) => Pinyin { held },
-            Err(_) => unreachable!(),
+        Pinyin {
+            held: array_of(self.held.as_slice()),
         }
     }
 }

@@ -1,5 +1,5 @@
 ghost use Rattle.std.specs.Prelude.{◌≡◌, flat_map};
-ghost use Rattle.chew_spec_layout.specs.Spelling.{spellings};
+ghost use Rattle.chew_spec_layout.specs.Spellings.{spellings};
 ghost use Rattle.chew_layout_pinyin.specs.Tables.{row_of};
 
 /// Letters, and the marks that they spell.

@@ -1,6 +1,7 @@
 ghost use Rattle.std.specs.Prelude.{◌≡◌, ◌≤◌, SomeIff, OnSome, IsTrue};
 ghost use Rattle.std.specs.Option.{option_map};
-ghost use Rattle.chew_spec_layout.specs.Spelling.{is_tone_key, spelling_of, tone_of};
+ghost use Rattle.chew_spec_layout.specs.Spellings.{spelling_of};
+ghost use Rattle.chew_spec_layout.specs.Pinyin.{is_tone_key, tone_of};
 ghost use Rattle.chew_spec_syllable.specs.Syllable.{code_of};
 ghost use Rattle.chew_spec_syllable.specs.SyllableText.{front_parts};
 

@@ -1,6 +1,9 @@
 ghost use Rattle.std.specs.Prelude.{◌≡◌, length};
 ghost use Rattle.chew_spec_layout.specs.Table.{columns_of};
+ghost use Rattle.chew_syllable.specs.Columns.{columns_in};
 ghost use Rattle.chew_layout_table.specs.Tables.{table_of};
+
+use chew_syllable::Columns;
 
 /// A layout in which each key is one part of a syllable.
 #[derive(Clone, Copy, Debug, PartialEq, Eq)]
@@ -12,47 +15,27 @@ pub enum Table {
 }
 
 impl Table {
-    /// The keys of the initials, in the order of their numbers.
-    pub(crate) fn initials(self) -> &'static [u8]
-        ensures value { result.now ≡ (columns_of (table_of self)).initials }
-        ensures count { length result.now ≡ 21 }
+    /// The keys of the layout.
+    pub(crate) fn columns(self) -> Columns
+        ensures value { columns_in result ≡ columns_of (table_of self) }
+        ensures initials { length result.initials.now ≡ 21 }
+        ensures medials { length result.medials.now ≡ 3 }
+        ensures finals { length result.finals.now ≡ 13 }
+        ensures tones { length result.tones.now ≡ 4 }
     {
         match self {
-            Table::Standard => b"1qaz2wsxedcrfv5tgbyhn",
-            Table::Eten => b"bpmfdtnlvkhg7c,./j;'s",
-        }
-    }
-
-    /// The keys of the medials, in the order of their numbers.
-    pub(crate) fn medials(self) -> &'static [u8]
-        ensures value { result.now ≡ (columns_of (table_of self)).medials }
-        ensures count { length result.now ≡ 3 }
-    {
-        match self {
-            Table::Standard => b"ujm",
-            Table::Eten => b"exu",
-        }
-    }
-
-    /// The keys of the finals, in the order of their numbers.
-    pub(crate) fn finals(self) -> &'static [u8]
-        ensures value { result.now ≡ (columns_of (table_of self)).finals }
-        ensures count { length result.now ≡ 13 }
-    {
-        match self {
-            Table::Standard => b"8ik,9ol.0p;/-",
-            Table::Eten => b"aorwiqzy890-=",
-        }
-    }
-
-    /// The keys of the tones, in the order of their numbers.
-    pub(crate) fn tones(self) -> &'static [u8]
-        ensures value { result.now ≡ (columns_of (table_of self)).tones }
-        ensures count { length result.now ≡ 4 }
-    {
-        match self {
-            Table::Standard => b"7634",
-            Table::Eten => b"1234",
+            Table::Standard => Columns {
+                initials: b"1qaz2wsxedcrfv5tgbyhn",
+                medials: b"ujm",
+                finals: b"8ik,9ol.0p;/-",
+                tones: b"7634",
+            },
+            Table::Eten => Columns {
+                initials: b"bpmfdtnlvkhg7c,./j;'s",
+                medials: b"exu",
+                finals: b"aorwiqzy890-=",
+                tones: b"1234",
+            },
         }
     }
 }

@@ -1,6 +1,5 @@
 ghost use Rattle.std.specs.Prelude.{◌≡◌, IsTrue};
-ghost use Rattle.chew_spec_layout.specs.Held.{is_held};
-ghost use Rattle.chew_spec_layout.specs.Table.{fed, columns_of, holds_something, nothing_held};
+ghost use Rattle.chew_spec_layout.specs.Table.{is_held, fed, columns_of, holds_something, nothing_held};
 ghost use Rattle.chew_spec_syllable.specs.SyllableText.{text_of};
 ghost use Rattle.chew_syllable.specs.Step.{step_of};
 ghost use Rattle.chew_layout_table.specs.Tables.{table_of};
@@ -8,7 +7,7 @@ ghost use Rattle.chew_layout_table.specs.Tables.{table_of};
 use crate::columns::Table;
 use crate::turn::{NOTHING, fed, holds_something};
 use arrayvec::ArrayString;
-use chew_syllable::{Parts, Step};
+use chew_syllable::{Parts, Step, string_of};
 use std::marker::Model;
 
 /// The default layout or Eten, with at most one initial, one medial and one final that were typed.
@@ -20,8 +19,7 @@ pub struct Direct {
 
 impl Model for Direct {
     ghost use Rattle.std.specs.Prelude.{IsTrue};
-    ghost use Rattle.chew_spec_layout.specs.Held.{is_held};
-    ghost use Rattle.chew_spec_layout.specs.Table.{Direct as Held};
+    ghost use Rattle.chew_spec_layout.specs.Table.{is_held, Direct as Held};
     ghost use Rattle.chew_layout_table.specs.Tables.{table_of};
 
     ghost Value = { Held };
@@ -72,9 +70,7 @@ impl Direct {
     pub fn shown(&self) -> ArrayString<12>
         ensures { result.bytes ≡ text_of self.now.held }
     {
-        let mut shown = ArrayString::new();
-        shown.push_str(self.held.text().as_str());
-        shown
+        string_of(self.held.text().as_str())
     }
 
     /// The same layout once more. It takes no memory.

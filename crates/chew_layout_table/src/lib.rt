@@ -3,8 +3,6 @@
 
 mod columns;
 mod direct;
-#[cfg(test)]
-mod tests;
 mod turn;
 
 pub use columns::Table;

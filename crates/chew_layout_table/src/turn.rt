@@ -1,23 +1,16 @@
 ghost use Rattle.std.specs.Prelude.{◌≡◌, ◌<◌, ◌≤◌, ◌==◌, IfSome, OnSome, position, SomeIff, IsTrue, length};
-ghost use Rattle.chew_spec_layout.specs.Held.{is_held};
-ghost use Rattle.chew_spec_layout.specs.Table.{fed, columns_of, holds_something, nothing_held, has_key, number_of, whole_or, without_last, erased};
+ghost use Rattle.chew_spec_layout.specs.Table.{is_held, fed, columns_of, holds_something, nothing_held, has_key, number_of, whole_or, without_last, erased};
 ghost use Rattle.chew_syllable.specs.Step.{step_of};
 ghost use Rattle.chew_layout_table.specs.Tables.{table_of};
 
 use crate::columns::Table;
-use chew_syllable::{Parts, Step, Syllable};
-
-/// The key Space, which ends a syllable in the first tone.
-const SPACE: u8 = b' ';
-
-/// The key Backspace.
-const BACKSPACE: u8 = 8;
+use chew_syllable::{BACKSPACE, Parts, SPACE, Step, Syllable, number_in};
 
 /// No part.
 pub(crate) const NOTHING: Parts = Parts {
     initial: 0,
     medial: 0,
-    rime: 0,
+    final_: 0,
     tone: 0,
 };
 
@@ -28,32 +21,12 @@ pub(crate) struct Turn {
     pub(crate) held: Parts,
 }
 
-/// The place of a key in a column.
-fn place_of(column: &[u8], key: u8) -> Option<usize>
-    ensures value { result ≡ position (λ k. k == key) column.now }
-    ensures range { IfSome result (λ place. place < length column.now) }
-{
-    column.iter().position(|k| *k == key)
-}
-
-/// The number of a key's part in a column.
-fn number_in(column: &[u8], key: u8) -> Option<u8>
-    requires { length column.now ≤ 255 }
-    ensures value { SomeIff result (IsTrue (has_key column.now key)) (number_of column.now key) }
-    ensures range { OnSome result (number_of column.now key ≤ length column.now) }
-{
-    match place_of(column, key) {
-        Some(place) => Some(place as u8 + 1),
-        None => None,
-    }
-}
-
 /// Whether there is a part.
 pub(crate) fn holds_something(held: Parts) -> bool
     requires { IsTrue (is_held held) }
     ensures { result ≡ holds_something held }
 {
-    held.initial + held.medial + held.rime > 0
+    held.initial + held.medial + held.final_ > 0
 }
 
 /// Ends the syllable with this tone; the other step where nothing is held.
@@ -82,8 +55,8 @@ fn without_last(held: Parts) -> Parts
     ensures value { result ≡ without_last held }
     ensures valid { IsTrue (is_held result) }
 {
-    if held.rime > 0 {
-        return Parts { rime: 0, ..held };
+    if held.final_ > 0 {
+        return Parts { final_: 0, ..held };
     }
     if held.medial > 0 {
         return Parts { medial: 0, ..held };
@@ -118,25 +91,26 @@ pub(crate) fn fed(table: Table, held: Parts, key: u8) -> Turn
     ensures held { result.held ≡ (fed (columns_of (table_of table)) held key).held }
     ensures valid { IsTrue (is_held result.held) }
 {
-    if let Some(initial) = number_in(table.initials(), key) {
+    let columns = table.columns();
+    if let Some(initial) = number_in(columns.initials, key) {
         return Turn {
             step: Step::Kept,
             held: Parts { initial, ..held },
         };
     }
-    if let Some(medial) = number_in(table.medials(), key) {
+    if let Some(medial) = number_in(columns.medials, key) {
         return Turn {
             step: Step::Kept,
             held: Parts { medial, ..held },
         };
     }
-    if let Some(rime) = number_in(table.finals(), key) {
+    if let Some(final_) = number_in(columns.finals, key) {
         return Turn {
             step: Step::Kept,
-            held: Parts { rime, ..held },
+            held: Parts { final_, ..held },
         };
     }
-    if let Some(tone) = number_in(table.tones(), key) {
+    if let Some(tone) = number_in(columns.tones, key) {
         return whole_or(Step::Refused, held, tone);
     }
     match key {

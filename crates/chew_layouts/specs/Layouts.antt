@@ -14,5 +14,5 @@ kind_of kind.Pinyin = spec.Pinyin
 
 abbrev pub layout_of : Layout → spec.Layout
 layout_of (layout.Direct direct) = spec.ByParts direct.table direct.held
-layout_of (layout.Raw26 raw) = spec.ByLetters raw.letters raw.held
+layout_of (layout.Raw26 raw) = spec.ByLetters raw.kind raw.held
 layout_of (layout.Pinyin held) = spec.BySpelling held

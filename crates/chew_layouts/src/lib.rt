@@ -3,8 +3,6 @@
 
 mod kind;
 mod layout;
-#[cfg(test)]
-mod tests;
 
 pub use kind::Kind;
 pub use layout::Layout;

@@ -5,12 +5,11 @@ use Rattle.std.proofs.lemmas.Str.{length-encode, len_utf8_bounds}
 use Rattle.std.specs.Prelude.{slice_index, nat_lt}
 use Rattle.chew_spec_syllable.specs.Syllable.{Parts, is_code}
 use Rattle.chew_spec_syllable.specs.SyllableText.{initial_marks, medial_marks, final_marks, mark_text, text_of}
-use Rattle.chew_spec_layout.specs.Held.{is_held}
+use Rattle.chew_spec_layout.specs.Table.{is_held, columns_of, holds_something, nothing_held}
 use Rattle.chew_spec_layout.specs.Layout.{Kind, Standard, Eten, Hsu, Et26, Pinyin, Layout, ByParts, ByLetters, BySpelling, new_layout, kind_in, feed, cleared, holds, shown, is_layout}
 use Rattle.chew_spec_layout.specs.Letters.{letter_columns}
 use Rattle.chew_spec_layout.specs.Letters as letter
 use Rattle.chew_spec_layout.specs.Step.{Whole, Refused, NotMine}
-use Rattle.chew_spec_layout.specs.Table.{columns_of, holds_something, nothing_held}
 use Rattle.chew_spec_layout.specs.Table as table
 use Rattle.chew_spec_layout.proofs.Fed as by_parts
 use Rattle.chew_spec_layout.proofs.Held as in_parts

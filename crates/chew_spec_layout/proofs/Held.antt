@@ -7,8 +7,7 @@ use Rattle.std.proofs.lemmas.Bool.{and_parts, and_from, leb-true, le-leb, ltb-tr
 use Rattle.chew_spec_syllable.specs.Syllable.{Parts, is_syllable, is_code}
 use Rattle.chew_spec_syllable.proofs.CodeParts.{code_is}
 use Rattle.chew_spec_layout.specs.Step.{Step, Kept, Whole, Refused, Erased, NotMine}
-use Rattle.chew_spec_layout.specs.Table.{Columns, Fed, Table, Standard, Eten, columns_of, has_key, number_of, fed, whole_or, without_last, holds_something, nothing_held, space, backspace}
-use Rattle.chew_spec_layout.specs.Held.{is_held}
+use Rattle.chew_spec_layout.specs.Table.{Columns, Fed, Table, Standard, Eten, columns_of, has_key, number_of, fed, whole_or, without_last, holds_something, nothing_held, space, backspace, is_held}
 
 -- a place in a list of this length, counted from 1; 0 where there is none
 number_at_most : (place count : ℕ) → option_map_or suc (cond (ltb place count) (Some place) None) 0 ≤ count

@@ -14,8 +14,11 @@ use Rattle.chew_spec_syllable.specs.SyllableText.{front_parts, text_of, mark_tex
 use Rattle.chew_spec_syllable.proofs.CodeParts.{InRange, in_range, parts_back, code_is}
 use Rattle.chew_spec_layout.specs.Step.{Kept, Whole, Refused, Erased, NotMine}
 use Rattle.chew_spec_layout.specs.Table.{space, backspace}
-use Rattle.chew_spec_layout.specs.Spelling.{Spelling, spellings, alone, endings_a, endings_i, endings_u, endings_v, endings_yu, ending_bare, plain_initials, n_initials, palatal_initials, bare_initials, spelling_of, SpellingFed, is_pinyin_letter, is_tone_key, tone_of, fed_spelling, is_held_spelling}
-use Rattle.chew_spec_layout.specs.Spelled.{spells_syllable, IsSpelled}
+use Rattle.chew_spec_layout.specs.Spelling.{Spelling}
+use Rattle.chew_spec_layout.specs.Endings.{endings_a, endings_i, endings_u, endings_v, endings_yu, ending_bare}
+use Rattle.chew_spec_layout.specs.Spellings.{spellings, alone, plain_initials, n_initials, palatal_initials, bare_initials, spelling_of}
+use Rattle.chew_spec_layout.specs.Pinyin.{SpellingFed, is_pinyin_letter, is_tone_key, tone_of, fed_spelling, is_held_spelling}
+use Rattle.chew_spec_layout.specs.SpellingKeys.{spells_syllable, IsSpelled}
 
 -- each spelling's marks are a syllable's
 all_spell : list_all (λ s. spells_syllable s.marks) spellings ≡ true

@@ -2,13 +2,12 @@
 use Rattle.std.specs.Prelude.{ℕ, Bool, List, [], length, nat_lt}
 use Rattle.chew_spec_syllable.specs.Syllable.{Parts}
 use Rattle.chew_spec_syllable.specs.SyllableText.{text_of}
-use Rattle.chew_spec_layout.specs.Held.{is_held}
+use Rattle.chew_spec_layout.specs.Table.{is_held, Table, columns_of, fed, holds_something, nothing_held}
 use Rattle.chew_spec_layout.specs.Letters as letter
 use Rattle.chew_spec_layout.specs.Letters.{Letters, letter_columns, fed_letters, are_held_letters}
-use Rattle.chew_spec_layout.specs.Spelling.{fed_spelling, is_held_spelling}
+use Rattle.chew_spec_layout.specs.Pinyin.{fed_spelling, is_held_spelling}
 use Rattle.chew_spec_layout.specs.Step.{Step}
 use Rattle.chew_spec_layout.specs.Table as table
-use Rattle.chew_spec_layout.specs.Table.{Table, columns_of, fed, holds_something, nothing_held}
 
 -- the layouts by their names
 pub data Kind : Type 0 where
@@ -21,7 +20,7 @@ pub data Kind : Type 0 where
 -- a layout, and what it holds: parts of a syllable, or letters as they were typed
 pub data Layout : Type 0 where
   ByParts : (table : Table) (held : Parts) → Layout
-  ByLetters : (letters : Letters) (held : List ℕ) → Layout
+  ByLetters : (kind : Letters) (held : List ℕ) → Layout
   BySpelling : (held : List ℕ) → Layout
 
 -- a layout of this kind that holds nothing
@@ -49,31 +48,31 @@ pub record LayoutFed : Type 0 where
 abbrev pub feed : Layout → ℕ → LayoutFed
 feed (ByParts table held) key =
     let turn = fed (columns_of table) held key in record { step = turn.step; layout = ByParts table turn.held }
-feed (ByLetters letters held) key =
-    let turn = fed_letters (letter_columns letters) held key in record { step = turn.step; layout = ByLetters letters turn.held }
+feed (ByLetters kind held) key =
+    let turn = fed_letters (letter_columns kind) held key in record { step = turn.step; layout = ByLetters kind turn.held }
 feed (BySpelling held) key =
     let turn = fed_spelling held key in record { step = turn.step; layout = BySpelling turn.held }
 
 -- the layout without what it holds
 abbrev pub cleared : Layout → Layout
 cleared (ByParts table held) = ByParts table nothing_held
-cleared (ByLetters letters held) = ByLetters letters []
+cleared (ByLetters kind held) = ByLetters kind []
 cleared (BySpelling held) = BySpelling []
 
 -- whether it holds anything
 abbrev pub holds : Layout → Bool
 holds (ByParts table held) = holds_something held
-holds (ByLetters letters held) = nat_lt 0 (length held)
+holds (ByLetters kind held) = nat_lt 0 (length held)
 holds (BySpelling held) = nat_lt 0 (length held)
 
 -- what it shows: the marks of the held parts, or the held letters
 abbrev pub shown : Layout → List ℕ
 shown (ByParts table held) = text_of held
-shown (ByLetters letters held) = held
+shown (ByLetters kind held) = held
 shown (BySpelling held) = held
 
 -- what it holds is in the range of its kind
 abbrev pub is_layout : Layout → Bool
 is_layout (ByParts table held) = is_held held
-is_layout (ByLetters letters held) = are_held_letters (letter_columns letters) held
+is_layout (ByLetters kind held) = are_held_letters (letter_columns kind) held
 is_layout (BySpelling held) = is_held_spelling held

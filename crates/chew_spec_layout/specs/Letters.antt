@@ -29,7 +29,7 @@ letter_columns Et26 = record {
 
 -- a layout of this kind, and the letters that it holds, as they were typed
 pub record Lettered : Type 0 where
-  pub letters : Letters
+  pub kind : Letters
   pub held : List ℕ
 
 -- which of the held letters is taken for which part

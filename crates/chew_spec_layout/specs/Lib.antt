@@ -1,9 +1,12 @@
-pub mod Held
+pub mod Endings
 pub mod Keys
 pub mod Layout
+pub mod LayoutKeys
 pub mod LetterKeys
 pub mod Letters
-pub mod Spelled
+pub mod Pinyin
 pub mod Spelling
+pub mod SpellingKeys
+pub mod Spellings
 pub mod Step
 pub mod Table

@@ -1,6 +1,6 @@
 -- The default layout and Eten: each key is one part of a syllable, or its tone. Source: the published
 -- assignments of the two layouts.
-use Rattle.std.specs.Prelude.{ℕ, suc, ◌+◌, Bool, List, codes, position, ◌==◌, nat_lt, is_some, if◌then◌else◌}
+use Rattle.std.specs.Prelude.{ℕ, suc, ◌+◌, Bool, ◌&&◌, List, codes, position, ◌==◌, nat_le, nat_lt, is_some, if◌then◌else◌}
 use Rattle.std.specs.Option.{option_map_or}
 use Rattle.chew_spec_syllable.specs.Syllable.{Parts, code_of}
 use Rattle.chew_spec_layout.specs.Step.{Step, Kept, Whole, Refused, Erased, NotMine}
@@ -44,6 +44,10 @@ nothing_held = record { initial = 0; medial = 0; final = 0; tone = 0 }
 
 abbrev pub holds_something : Parts → Bool
 holds_something held = nat_lt 0 (held.initial + held.medial + held.final)
+
+-- what a layout keeps of the parts that it holds: each is in its range, and there is no tone yet
+abbrev pub is_held : Parts → Bool
+is_held held = nat_le held.initial 21 && (nat_le held.medial 3 && (nat_le held.final 13 && (held.tone == 0)))
 
 -- one of the two layouts, and what it holds
 pub record Direct : Type 0 where

@@ -3,8 +3,10 @@
 ghost use Rattle.std.specs.Prelude.{◌≡◌, ℕ, ◌++◌, List, [], ◌∷◌, IsTrue, IfSome, Some, codes};
 ghost use Rattle.chew_spec_syllable.specs.Syllable.{is_code, parts_of};
 ghost use Rattle.chew_spec_syllable.specs.SyllableText.{mark_text, text_of, tone_marks};
-ghost use Rattle.chew_spec_layout.specs.Spelled.{IsSpelled, no_spelling_twice, spelling_steps};
-ghost use Rattle.chew_spec_layout.specs.Spelling.{Spelling, fed_spelling, is_held_spelling, spelling_of, spellings, tone_of};
+ghost use Rattle.chew_spec_layout.specs.SpellingKeys.{IsSpelled, no_spelling_twice, spelling_steps};
+ghost use Rattle.chew_spec_layout.specs.Spelling.{Spelling};
+ghost use Rattle.chew_spec_layout.specs.Spellings.{spelling_of, spellings};
+ghost use Rattle.chew_spec_layout.specs.Pinyin.{fed_spelling, is_held_spelling, tone_of};
 ghost use Rattle.chew_spec_layout.specs.Step.{Step, Kept, Whole, Refused, Erased, NotMine};
 
 /// Known syllables without an initial: ㄦˊ, ㄧㄠˇ, ㄨㄥ and ㄩㄥˋ.
@@ -53,11 +55,6 @@ pub fn known_others()
     ensures erase { spelling_steps [] (109 ∷ (97 ∷ (8 ∷ (8 ∷ (8 ∷ []))))) ≡ Kept ∷ (Kept ∷ (Erased ∷ (Erased ∷ (NotMine ∷ [])))) }
     ensures nothing_held { spelling_steps [] (codes "15 ;A") ≡ NotMine ∷ (NotMine ∷ (NotMine ∷ (NotMine ∷ (NotMine ∷ [])))) }
     ensures others { spelling_steps [] (codes "a06A`{ ") ≡ Kept ∷ (NotMine ∷ (NotMine ∷ (NotMine ∷ (NotMine ∷ (NotMine ∷ (Whole 8 ∷ [])))))) }
-{}
-
-/// No spelling stands twice.
-pub fn no_spelling_stands_twice()
-    ensures { IsTrue (no_spelling_twice spellings) }
 {}
 
 /// The spelling that letters are has those letters, and its marks are the text of a syllable in the first tone.

@@ -4,8 +4,7 @@ ghost use Rattle.std.specs.Prelude.{◌≡◌, ℕ, List, [], ◌∷◌, IsTrue,
 ghost use Rattle.std.specs.List.{range_with_len};
 ghost use Rattle.chew_spec_syllable.specs.Syllable.{Parts, is_code};
 ghost use Rattle.chew_spec_layout.specs.Step.{Step, Kept, Whole, Refused, Erased, NotMine};
-ghost use Rattle.chew_spec_layout.specs.Table.{Columns, Table, columns_of, has_key, fed, nothing_held, holds_something, Standard, Eten};
-ghost use Rattle.chew_spec_layout.specs.Held.{is_held};
+ghost use Rattle.chew_spec_layout.specs.Table.{Columns, Table, columns_of, has_key, fed, nothing_held, holds_something, Standard, Eten, is_held};
 ghost use Rattle.chew_spec_layout.specs.Keys.{no_key_twice, all_keys, mark_of, toned, steps};
 
 /// What the keys of known syllables do from nothing held: ㄘㄜˋ, ㄕˋ, ㄒㄧㄤˋ in two orders,

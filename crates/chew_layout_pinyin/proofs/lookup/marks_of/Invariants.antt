@@ -1,7 +1,7 @@
 -- Nothing was found so far.
 use Rattle.std.proofs.Common.{◌≡◌, flat_map, drop}
 use Rattle.std.specs.Option.{option_map}
-use Rattle.chew_spec_layout.specs.Spelling.{spelling_of}
+use Rattle.chew_spec_layout.specs.Spellings.{spelling_of}
 use Rattle.chew_layout_pinyin.specs.Tables.{row_of, marks_in}
 use Rattle.chew_layout_pinyin.proofs.lookup.marks_of.Given as goal
 
