@@ -2,19 +2,32 @@
 //! memory that fail where they are told to, and some over the readers and writers of std.
 #![tactic(auto)]
 
-mod failing;
+mod disk;
+mod fails;
 mod failure;
-mod memory;
-mod reading;
-mod standard;
-mod writing;
+mod folder_disk;
+mod interrupts;
+mod mem_crash;
+mod mem_disk;
+mod mem_sink;
+mod mem_slot;
+mod mem_source;
+mod sink;
+mod source;
+mod std_sink;
+mod std_source;
 
-pub use failing::Fails;
+pub use disk::Disk;
+pub use fails::Fails;
 pub use failure::Failed;
-pub use memory::{MemSink, MemSource};
-pub use reading::{ReadFault, Source, read_up_to};
-pub use standard::{StdSink, StdSource};
-pub use writing::{Sink, write_all};
+pub use folder_disk::FolderDisk;
+pub use mem_disk::MemDisk;
+pub use mem_sink::MemSink;
+pub use mem_source::MemSource;
+pub use sink::{Sink, write_all};
+pub use source::{ReadFault, Source, read_up_to};
+pub use std_sink::StdSink;
+pub use std_source::StdSource;
 
 #[cfg(test)]
 mod tests;

@@ -1,6 +1,7 @@
 //! Values worked out by hand.
 use super::*;
 use std::alloc::Global;
+use std::io::{self, Error, ErrorKind, Read, Write};
 use std::test::Fail;
 
 // The source "abc" that gives a byte a read.
@@ -82,5 +83,77 @@ fn readers_and_writers_of_std_serve(rt: HostRuntime) -> Result<(), Fail> {
     let mut full = StdSink::of(room.as_mut_slice());
     assert_eq!(rt; full.write(b"abc"), Ok(2));
     assert_eq!(rt; full.write(b"c"), Err(Failed));
+    Ok(())
+}
+
+// A reader or a writer that a signal interrupts at its first and third call, and that fails at its
+// fourth: calls 2 and 5 are done.
+#[derive(Drop)]
+struct Shaky {
+    calls: u32,
+}
+
+impl Shaky {
+    fn call(&mut self) -> io::Result<()> {
+        self.calls = self.calls.saturating_add(1);
+        match self.calls {
+            1 | 3 => Err(Error::from(ErrorKind::Interrupted)),
+            4 => Err(Error::from(ErrorKind::BrokenPipe)),
+            _ => Ok(()),
+        }
+    }
+}
+
+impl Read for Shaky {
+    fn read(&mut self, buffer: &mut [u8]) -> io::Result<usize> {
+        self.call()?;
+        match buffer {
+            [first, ..] => {
+                *first = b'a';
+                Ok(1)
+            }
+            [] => Ok(0),
+        }
+    }
+}
+
+impl Write for Shaky {
+    fn write(&mut self, buffer: &[u8]) -> io::Result<usize> {
+        self.call()?;
+        Ok(buffer.len())
+    }
+
+    fn flush(&mut self) -> io::Result<()> {
+        Ok(())
+    }
+}
+
+#[test]
+fn an_interrupted_call_is_made_again_and_a_failed_one_is_not(rt: HostRuntime) -> Result<(), Fail> {
+    let mut source = StdSource::of(Shaky { calls: 0 });
+    let mut sink = StdSink::of(Shaky { calls: 0 });
+    for answer in [Ok(1), Err(Failed), Ok(1)] {
+        assert_eq!(rt; source.read(&mut [0; 2]), answer);
+        assert_eq!(rt; sink.write(b"b"), answer);
+    }
+    Ok(())
+}
+
+// The longest input that a program reads, 64 MiB and a byte past it: with memory at hand neither a
+// read nor a write is refused for its size.
+#[test]
+fn the_longest_text_passes(rt: HostRuntime) -> Result<(), Fail> {
+    let alloc = rt.alloc();
+    let limit = 67_108_864;
+    let bytes = vec![in alloc; b'a'; limit + 1]?;
+    let mut source = MemSource::of(bytes, 65_536, Fails::never(alloc));
+    let text = read_up_to(alloc, &mut source, limit)?;
+    assert_eq!(rt; text.len(), limit + 1);
+    let mut sink = MemSink::of(alloc, Fails::never(alloc));
+    for _ in 0..2 {
+        assert_eq!(rt; write_all(&mut sink, text.as_slice()), Ok(()));
+    }
+    assert_eq!(rt; sink.bytes().len(), 2 * (limit + 1));
+    assert_eq!(rt; sink.refused(), 0);
     Ok(())
 }

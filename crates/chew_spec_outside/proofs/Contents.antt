@@ -4,7 +4,7 @@ use Rattle.std.specs.Option.{option_map}
 use Rattle.std.proofs.Common.{arith, sym, ◌∙◌, ap, subst, append_assoc, length-append}
 use Rattle.std.proofs.lemmas.List.{drop-drop, length-take-le, length-drop, take_at, take_all, drop_all}
 use Rattle.std.proofs.Math.Seq.{take-add}
-use Rattle.chew_spec_outside.specs.Source.{Reads, MovesFront, ReadsText, ReadsUpTo}
+use Rattle.chew_spec_outside.specs.Source.{Loses, Reads, MovesFront, ReadsText, ReadsUpTo}
 use Rattle.chew_spec_outside.specs.Sink.{Takes, appended}
 
 -- what is taken after two texts is what is taken after the texts joined
@@ -72,3 +72,22 @@ reads-ended (Some left) middle after text buffer filled most had reads room fits
           ∙ ap Some (sym (drop_all most left within));
       front = had.front ∙ take_all (length text) left short ∙ sym (take_all most left within);
     }
+
+-- a text that was read, and then some bytes lost
+pub reads-lost : (before middle after : Option (List ℕ)) (text : List ℕ) (most limit : ℕ) → ReadsText before middle text → Loses middle after most → length text + most ≤ limit → Loses before after limit
+reads-lost None middle after text most limit had lost fits = record {
+  count = length text + lost.count;
+  within = omega (arith, lost.within);
+  rest = lost.rest ∙ ap (λ o. option_map (drop lost.count) o) had.rest;
+}
+reads-lost (Some left) middle after text most limit had lost fits = record {
+  count = length text + lost.count;
+  within = omega (arith, lost.within);
+  rest = lost.rest
+      ∙ ap (λ o. option_map (drop lost.count) o) had.rest
+      ∙ ap Some (drop-drop lost.count (length text) left);
+}
+
+-- a text that was read is lost
+pub reads-gone : (before after : Option (List ℕ)) (text : List ℕ) (limit : ℕ) → ReadsText before after text → length text ≤ limit → Loses before after limit
+reads-gone before after text limit had fits = record { count = length text; within = fits; rest = had.rest }

@@ -1,5 +1,6 @@
-pub mod Fails
+pub mod FailingCalls
 pub mod Faults
 pub mod Memory
 pub mod Sink
 pub mod Source
+pub mod Standard

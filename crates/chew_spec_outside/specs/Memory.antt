@@ -1,6 +1,6 @@
 -- A source and a sink in memory as they are seen: content, failing calls and counts.
 use Rattle.std.specs.Prelude.{ℕ, Bool, List, [], if◌then◌else◌}
-use Rattle.chew_spec_outside.specs.Fails.{FailingCalls}
+use Rattle.chew_spec_outside.specs.FailingCalls.{FailingCalls}
 use Rattle.chew_spec_outside.specs.Faults.{risen}
 
 -- a source: what is left to read, how many bytes a read gives at most, and the counts of calls and faults

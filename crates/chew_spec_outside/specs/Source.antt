@@ -14,6 +14,12 @@ pub record Reads (before after : Option (List ℕ)) (buffer filled : List ℕ) (
   pub rest : after ≡ option_map (drop n) before
   pub front : IfSome before (λ left. MovesFront left buffer filled n)
 
+-- some bytes of what was left are gone, at most so many
+pub record Loses (before after : Option (List ℕ)) (most : ℕ) : Type 0 where
+  pub count : ℕ
+  pub within : count ≤ most
+  pub rest : after ≡ option_map (drop count) before
+
 -- some reads gave a text: it is the front of what was left, and what follows it is left
 pub record ReadsText (before after : Option (List ℕ)) (text : List ℕ) : Type 0 where
   pub rest : after ≡ option_map (drop (length text)) before

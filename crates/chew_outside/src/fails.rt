@@ -1,5 +1,5 @@
 ghost use Rattle.std.specs.Prelude.{◌≡◌, [], None};
-ghost use Rattle.chew_spec_outside.specs.Fails.{names};
+ghost use Rattle.chew_spec_outside.specs.FailingCalls.{names};
 
 use std::alloc::Global;
 use std::marker::Model;
@@ -16,7 +16,7 @@ pub struct Fails {
 }
 
 impl Model for Fails {
-    ghost use Rattle.chew_spec_outside.specs.Fails.{FailingCalls};
+    ghost use Rattle.chew_spec_outside.specs.FailingCalls.{FailingCalls};
 
     ghost Value = { FailingCalls };
 

@@ -2,8 +2,8 @@
 use Rattle.std.proofs.Common.{◌+◌, ◌≡◌, ◌++◌, true, not, arith, length, take, refl, ◌∙◌, ap, sym, subst, length-append, length-take, vec_len}
 use Rattle.std.specs.Result.{is_ok}
 use Rattle.chew_spec_outside.specs.Source.{Reads, ReadsText}
-use Rattle.chew_spec_outside.proofs.Contents.{reads-chain, reads-ended}
-use Rattle.chew_outside.proofs.reading.read_up_to.Goals as goal
+use Rattle.chew_spec_outside.proofs.Contents.{reads-chain, reads-ended, reads-gone, reads-lost}
+use Rattle.chew_outside.proofs.source.read_up_to.Goals as goal
 
 pub reading-preserved : goal.reading-preserved
 reading-preserved g c =
@@ -27,8 +27,11 @@ returns-in-Ok-eq0-clause-ok g c =
 
 pub returns-then-is_err-clause-err : goal.returns-then-is_err-clause-err
 returns-then-is_err-clause-err g c =
-    let text : ReadsText (g.S.Source.left c.args.source.now) (g.S.Source.left c.read.new.self) (c.reading.text.items ++ take c.in-Ok.count c.read.new.into) = reads-chain _ _ _ _ _ _ _ c.reading.invariant.text c.in-Ok.ensures.ok in (
-      length (c.reading.text.items ++ take c.in-Ok.count c.read.new.into),
-      omega (arith, length-append c.reading.text.items (take c.in-Ok.count c.read.new.into), length-take c.in-Ok.count c.read.new.into, c.in-Ok.ensures.ok.fits, length-take c.min-room.result c.reading.buffer, c.min-room.ensures, c.len-in-reading.ensures, c.reading.text.ok, c.reading.invariant.within),
-      text.rest,
-    )
+    let text : ReadsText (g.S.Source.left c.args.source.now) (g.S.Source.left c.read.new.self) (c.reading.text.items ++ take c.in-Ok.count c.read.new.into) = reads-chain _ _ _ _ _ _ _ c.reading.invariant.text c.in-Ok.ensures.ok in
+    reads-gone _ _ _ _ text
+    (omega (arith, length-append c.reading.text.items (take c.in-Ok.count c.read.new.into), length-take c.in-Ok.count c.read.new.into, c.in-Ok.ensures.ok.fits, length-take c.min-room.result c.reading.buffer, c.min-room.ensures, c.len-in-reading.ensures, c.reading.text.ok, c.reading.invariant.within))
+
+pub returns-in-Err-clause-err : goal.returns-in-Err-clause-err
+returns-in-Err-clause-err g c =
+    reads-lost _ _ _ _ _ _ c.reading.invariant.text c.in-Err.ensures.err
+    (omega (arith, length-take c.min-room.result c.reading.buffer, c.min-room.ensures, c.len-in-reading.ensures, c.reading.text.ok, c.reading.invariant.within))

@@ -1,6 +1,6 @@
-ghost use Rattle.std.specs.Prelude.{◌≡◌, ℕ, ◌+◌, ◌<◌, ◌≤◌, List, drop, Option, option_map, is_err, IfOk, OnErr};
+ghost use Rattle.std.specs.Prelude.{◌≡◌, ℕ, ◌+◌, ◌<◌, ◌≤◌, List, length, Option, is_err, IfOk, OnErr};
 ghost use Rattle.chew_spec_outside.specs.Faults.{HasCause};
-ghost use Rattle.chew_spec_outside.specs.Source.{Reads, ReadsUpTo};
+ghost use Rattle.chew_spec_outside.specs.Source.{Loses, Reads, ReadsUpTo};
 ghost use Rattle.chew_outside.specs.ReadFault.{source_failed};
 
 use crate::Failed;
@@ -14,11 +14,11 @@ pub trait Source {
     ghost faults: { Self → ℕ };
 
     /// Reads some bytes into the front of `into` and answers how many. 0 for a buffer that isn't
-    /// empty is the end.
+    /// empty is the end. A read that failed may have lost bytes, no more than there was room for.
     fn read(&mut self, into: &mut [u8]) -> Result<usize, Failed>
         ensures cause { HasCause (faults self.old) (faults self.new) (is_err result) }
         ensures ok { IfOk result (λ n. Reads (left self.old) (left self.new) into.old into.new n) }
-        ensures err { OnErr result (left self.new ≡ left self.old) };
+        ensures err { OnErr result (Loses (left self.old) (left self.new) (length into.old)) };
 }
 
 /// Why a bounded read gave no text.
@@ -35,7 +35,7 @@ const PIECE: usize = 4096;
 
 /// Reads a source to its end, or to one byte past `limit` where it has more: so a text is too long
 /// for the limit exactly where its length is `limit + 1`. The bytes of a text that an error cut off
-/// are gone from the source.
+/// are lost to the source.
 pub fn read_up_to<S: Source>(
     alloc: Global,
     source: &mut S,
@@ -45,8 +45,7 @@ pub fn read_up_to<S: Source>(
     ensures cause { HasCause (S.faults source.old) (S.faults source.new) (source_failed result) }
     ensures ok { IfOk result (λ text.
         ReadsUpTo (S.left source.old) (S.left source.new) text.items (limit + 1)) }
-    ensures err { OnErr result ((n : ℕ) × (n ≤ limit + 1) ×
-        (S.left source.new ≡ option_map (drop n) (S.left source.old))) }
+    ensures err { OnErr result (Loses (S.left source.old) (S.left source.new) (limit + 1)) }
 {
     let most = limit + 1;
     let mut text = Vec::new(alloc);

@@ -3,7 +3,7 @@ use Rattle.std.proofs.Common.{◌-◌, ◌≡◌, arith, length, drop, take, ref
 use Rattle.std.proofs.lemmas.List.{take_all}
 use Rattle.chew_spec_outside.specs.Sink.{Takes}
 use Rattle.chew_spec_outside.proofs.Contents.{takes-chain}
-use Rattle.chew_outside.proofs.writing.write_all.Goals as goal
+use Rattle.chew_outside.proofs.sink.write_all.Goals as goal
 
 pub writing-preserved : goal.writing-preserved
 writing-preserved g c =

@@ -1,7 +1,7 @@
 -- A part of the bytes was taken, and no fault counted.
 use Rattle.std.proofs.Common.{◌≡◌, ◌-◌, ◌≤◌, length, take}
 use Rattle.chew_spec_outside.specs.Sink.{appended}
-use Rattle.chew_outside.proofs.writing.write_all.Given as goal
+use Rattle.chew_outside.proofs.sink.write_all.Given as goal
 
 abbrev pub invariant-writing : goal.invariant-writing
 invariant-writing g l = record {

@@ -1,7 +1,7 @@
 -- The text is what was read, and no fault was counted.
 use Rattle.std.proofs.Common.{◌≡◌, ◌-◌, ◌≤◌, vec_len}
 use Rattle.chew_spec_outside.specs.Source.{ReadsText}
-use Rattle.chew_outside.proofs.reading.read_up_to.Given as goal
+use Rattle.chew_outside.proofs.source.read_up_to.Given as goal
 
 abbrev pub invariant-reading : goal.invariant-reading
 invariant-reading g l = record {

@@ -1,0 +1,6 @@
+//! Laws of the definitions.
+
+mod calls;
+mod crashes;
+mod lists;
+mod memory;
