@@ -1,3 +1,6 @@
 pub mod KeyRows
 pub mod Looks
 pub mod Orders
+pub mod Outcomes
+pub mod Standing
+pub mod Together

@@ -1,14 +1,15 @@
 -- The hits of a run, put together from those of its intervals.
-use Rattle.std.proofs.Common.{◌≡◌, ℕ, zero, suc, ◌+◌, ◌-◌, ◌≤◌, ◌<◌, List, [], ◌∷◌, ◌++◌, length, take, drop, map, flat_map, min, refl, ap, sym, ◌∙◌, subst, append_assoc, append-nil, arith}
+use Rattle.std.proofs.Common.{◌≡◌, ℕ, zero, suc, ◌+◌, ◌-◌, ◌≤◌, ◌<◌, List, [], ◌∷◌, ◌++◌, length, take, drop, map, flat_map, min, get_or, refl, ap, ap₂, sym, ◌∙◌, subst, append_assoc, append-nil, arith}
 use Rattle.std.specs.List.{All, range_with_len}
-use Rattle.std.proofs.lemmas.List.{length-take, length-drop}
+use Rattle.std.proofs.lemmas.List.{length-take, length-drop, take_more}
+use Rattle.std.proofs.lemmas.Grind.{flat_map-append}
 use Rattle.chew_spec_syllable.specs.Row.{Row}
 use Rattle.chew_spec_dictionary.specs.Call.{Hit}
 use Rattle.chew_spec_dictionary.specs.Look.{hit_of, hits_of, shown_cmp, shown_hit_cmp}
 use Rattle.chew_spec_dictionary.specs.Order.{in_order}
 use Rattle.chew_spec_dictionary.specs.System.{rows_under}
 use Rattle.chew_spec_dictionary.proofs.Sorting.{in_order_map}
-use Rattle.chew_plain.specs.Look.{interval, hits_at, hits_from}
+use Rattle.chew_plain.specs.Look.{interval, hits_at}
 use Rattle.chew_plain.proofs.KeyRows.{all_have_key}
 
 -- the rows of a key have keys as long as it
@@ -37,22 +38,22 @@ part_more parts had now whole i end less e h =
     ∙ sym (ap (λ (n : ℕ). had ++ flat_map parts (range_with_len i n)) (let s : end - i ≡ suc (end - (i + 1)) = omega arith in s))
     ∙ h
 
+-- one element more
+pub one_more : {X : Type 0} (f : ℕ → X) (had now whole : List X) (i end : ℕ) → i < end → now ≡ had ++ (f i ∷ [])
+    → had ++ map f (range_with_len i (end - i)) ≡ whole → now ++ map f (range_with_len (i + 1) (end - (i + 1))) ≡ whole
+one_more f had now whole i end less e h =
+    ap (λ (l : List _). l ++ map f (range_with_len (i + 1) (end - (i + 1)))) e
+    ∙ append_assoc had (f i ∷ []) _
+    ∙ sym (ap (λ (n : ℕ). had ++ map f (range_with_len i n)) (let s : end - i ≡ suc (end - (i + 1)) = omega arith in s))
+    ∙ h
+
+-- the parts of one element more of a list
+pub parts_more : {A X : Type 0} (f : A → List X) (xs : List A) (i : ℕ) (x : A) (had now : List X) → i < length xs → x ≡ get_or xs i x → had ≡ flat_map f (take i xs) → now ≡ had ++ f x → now ≡ flat_map f (take (i + 1) xs)
+parts_more f xs i x had now less is h e =
+    e ∙ ap₂ (λ (l : List _) (y : _). l ++ f y) h is
+    ∙ sym (ap (flat_map f) (take_more xs i x less) ∙ flat_map-append f (take i xs) (get_or xs i x ∷ []) ∙ ap (λ (l : List _). flat_map f (take i xs) ++ l) (append-nil (f (get_or xs i x))))
+
 -- after the last part
 pub parts_all : {X : Type 0} (parts : ℕ → List X) (had whole : List X) (i end : ℕ) → end ≤ i → had ++ flat_map parts (range_with_len i (end - i)) ≡ whole → had ≡ whole
 parts_all parts had whole i end le h =
     sym (append-nil had) ∙ sym (ap (λ (n : ℕ). had ++ flat_map parts (range_with_len i n)) (let z : end - i ≡ zero = omega arith in z)) ∙ h
-
--- hits by start and length
-module _ {A X : Type 0} (f : A → List X) where
-  map_first : (g : ℕ → A) (ns : List ℕ) (more : List A) → flat_map f (map g ns ++ more) ≡ flat_map (λ n. f (g n)) ns ++ flat_map f more
-  map_first g [] more = refl
-  map_first g (n ∷ ns) more = ap (λ (l : List X). f (g n) ++ l) (map_first g ns more) ∙ sym (append_assoc (f (g n)) (flat_map (λ n. f (g n)) ns) (flat_map f more))
-
-  by_two : (g : ℕ → ℕ → A) (ns : ℕ → List ℕ) (starts : List ℕ) → flat_map f (flat_map (λ s. map (g s) (ns s)) starts) ≡ flat_map (λ s. flat_map (λ n. f (g s n)) (ns s)) starts
-  by_two g ns [] = refl
-  by_two g ns (s ∷ starts) = map_first (g s) (ns s) (flat_map (λ s. map (g s) (ns s)) starts) ∙ ap (λ (l : List X). flat_map (λ n. f (g s n)) (ns s) ++ l) (by_two g ns starts)
-
--- the hits of a run are those of its starts
-pub all_hits : (rows : List Row) (run : List ℕ) → flat_map (hits_from rows run) (range_with_len 0 (length run)) ≡ hits_of rows run
-unfolding hits_of
-all_hits rows run = sym (by_two (hits_at rows run) interval (λ start. range_with_len 1 (min 11 (length run - start))) (range_with_len 0 (length run)))

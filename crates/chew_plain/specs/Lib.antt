@@ -1,3 +1,4 @@
 pub mod Call
 pub mod Look
 pub mod Order
+pub mod Standing

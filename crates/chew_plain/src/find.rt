@@ -1,4 +1,4 @@
-ghost use Rattle.std.specs.Prelude.{◌≡◌, IsTrue};
+ghost use Rattle.std.specs.Prelude.{◌≡◌, ◌-◌, ◌≤◌, IsTrue, drop, length, take};
 ghost use Rattle.std.specs.List.{find};
 ghost use Rattle.std.specs.Option.{option_map_or};
 ghost use Rattle.std.specs.Str.{bytes_eq};
@@ -8,16 +8,28 @@ ghost use Rattle.chew_spec_dictionary.specs.System.{greatest, rows_under};
 use crate::order::key_order;
 use chew_syllable::{KeyRow, Syllable};
 use std::cmp::max;
+use std::ops::Range;
 
-/// The rows of a key among those of a map, where they stand together.
-pub(crate) fn rows_at<'a>(rows: &'a [KeyRow], key: &[Syllable]) -> &'a [KeyRow]
+/// The places of a key's rows among those of a map, where they stand together.
+pub(crate) fn places_at(rows: &[KeyRow], key: &[Syllable]) -> Range<usize>
     requires { IsTrue (is_map rows.now) }
-    ensures { result.now ≡ rows_under rows.now key.now }
+    ensures order { result.start ≤ result.end }
+    ensures end { result.end ≤ length rows.now }
+    ensures value { take (result.end - result.start) (drop result.start rows.now) ≡ rows_under rows.now key.now }
 {
     let low = rows.partition_point(|row| key_order(row.key.list(), key).is_lt());
     let rest = &rows[low..];
     let count = rest.partition_point(|row| !key_order(key, row.key.list()).is_lt());
-    &rest[..count]
+    low..low + count
+}
+
+/// The rows of a key among those of a map.
+pub(crate) fn rows_at<'a>(rows: &'a [KeyRow], key: &[Syllable]) -> &'a [KeyRow]
+    requires { IsTrue (is_map rows.now) }
+    ensures { result.now ≡ rows_under rows.now key.now }
+{
+    let places = places_at(rows, key);
+    &rows[places.start..places.end]
 }
 
 /// The frequency of the first of these rows that has the phrase, or 0.

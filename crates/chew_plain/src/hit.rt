@@ -14,6 +14,8 @@ pub struct Hit {
     pub phrase: Phrase,
     /// At most 99,999,999.
     pub freq: u32,
+    /// Whether the user hid it.
+    pub hidden: bool,
 }
 
 impl Model for Hit {
@@ -22,9 +24,9 @@ impl Model for Hit {
 
     ghost Value = { Found };
 
-    ghost view = { λ hit. record { start = hit.start; len = hit.len; phrase = hit.phrase; freq = hit.freq } };
+    ghost view = { λ hit. record { start = hit.start; len = hit.len; phrase = hit.phrase; freq = hit.freq; hidden = hit.hidden } };
 
-    ghost invariant = { λ hit. IsTrue (is_hit (record { start = hit.start; len = hit.len; phrase = hit.phrase; freq = hit.freq })) };
+    ghost invariant = { λ hit. IsTrue (is_hit (record { start = hit.start; len = hit.len; phrase = hit.phrase; freq = hit.freq; hidden = hit.hidden })) };
 }
 
 impl Hit {
@@ -37,6 +39,7 @@ impl Hit {
             len: self.len,
             phrase: self.phrase.copy(),
             freq: self.freq,
+            hidden: self.hidden,
         }
     }
 }

@@ -3,22 +3,30 @@
 #![tactic(auto)]
 
 mod call;
+mod dictionary;
 mod entry;
 mod find;
+mod frequency;
+mod hidden;
 mod hit;
 mod hits;
+mod interval;
 mod kept;
 mod lexicon;
 mod look;
 mod order;
+mod pairs;
+mod places;
 mod plain;
 mod reply;
 mod row_map;
 
 pub use call::Call;
 pub use entry::Entry;
+pub use frequency::next_freq;
 pub use hit::Hit;
 pub use hits::Hits;
+pub use interval::{Interval, intervals};
 pub use lexicon::{Lexicon, RowRef};
 pub use order::{image_order, sort_hits, sort_rows};
 pub use plain::Plain;

@@ -1,68 +1,44 @@
-ghost use Rattle.std.specs.Prelude.{◌≡◌, ◌+◌, ◌<◌, ◌≤◌, ◌++◌, IsTrue, OnOk, IfOk, length, map};
+ghost use Rattle.std.specs.Prelude.{◌≡◌, ◌+◌, ◌<◌, ◌≤◌, ◌++◌, OnOk, IfOk, length, map};
 ghost use Rattle.std.specs.List.{All};
-ghost use Rattle.chew_spec_dictionary.specs.Dictionary.{is_map};
 ghost use Rattle.chew_spec_dictionary.specs.Look.{hit_of, hits_of};
-ghost use Rattle.chew_plain.specs.Look.{interval, hits_at, hits_from};
+ghost use Rattle.chew_plain.specs.Look.{interval, hits_at};
 
-use crate::find::rows_at;
+use crate::hidden::is_hidden;
 use crate::hit::Hit;
+use crate::interval::{Interval, intervals};
 use crate::order::sort_hits;
+use crate::pairs::Pairs;
 use chew_syllable::{KeyRow, NoMemory, Syllable};
 use std::alloc::Global;
-use std::cmp::min;
 
-/// The most syllables of an interval.
-const INTERVAL_LIMIT: usize = 11;
-
-/// All rows of all intervals of a run, among those of a map.
-pub(crate) fn look(alloc: Global, rows: &[KeyRow], run: &[Syllable]) -> Result<Vec<Hit>, NoMemory>
-    requires map { IsTrue (is_map rows.now) }
+/// All rows of all intervals of a run.
+pub(crate) fn look(pairs: &Pairs, run: &[Syllable]) -> Result<Vec<Hit>, NoMemory>
     requires short { length run.now ≤ 39 }
-    ensures { IfOk result (λ hits. hits.items ≡ hits_of rows.now run.now) }
+    ensures { IfOk result (λ hits. hits.items ≡ hits_of pairs.now run.now) }
 {
-    let mut hits = Vec::new(alloc);
-    for start in 0..run.len() {
-        push_from(&mut hits, rows, run, start)?;
+    let list = intervals(pairs.allocator(), run.len())?;
+    let mut hits = Vec::new(pairs.allocator());
+    for at in list.as_slice() {
+        push_at(&mut hits, pairs, run, *at)?;
     }
     Ok(hits)
-}
-
-/// Adds the hits of the intervals that begin at a place.
-fn push_from(
-    hits: &mut Vec<Hit>,
-    rows: &[KeyRow],
-    run: &[Syllable],
-    start: usize,
-) -> Result<(), NoMemory>
-    requires map { IsTrue (is_map rows.now) }
-    requires short { length run.now ≤ 39 }
-    requires inside { start < length run.now }
-    ensures { OnOk result (hits.new.items ≡ hits.old.items ++ hits_from rows.now run.now start) }
-{
-    let limit = min(INTERVAL_LIMIT, run.len() - start);
-    for len in 1..limit + 1 {
-        push_at(hits, rows, run, start, len)?;
-    }
-    Ok(())
 }
 
 /// Adds the hits of an interval.
 fn push_at(
     hits: &mut Vec<Hit>,
-    rows: &[KeyRow],
+    pairs: &Pairs,
     run: &[Syllable],
-    start: usize,
-    len: usize,
+    at: Interval,
 ) -> Result<(), NoMemory>
-    requires map { IsTrue (is_map rows.now) }
     requires short { length run.now ≤ 39 }
-    requires inside { start + len ≤ length run.now }
-    requires some { 1 ≤ len }
-    requires few { len ≤ 11 }
-    ensures { OnOk result (hits.new.items ≡ hits.old.items ++ hits_at rows.now run.now (interval start len)) }
+    requires inside { at.start + at.len ≤ length run.now }
+    requires some { 1 ≤ at.len }
+    requires few { at.len ≤ 11 }
+    ensures { OnOk result (hits.new.items ≡ hits.old.items ++ hits_at pairs.now run.now at) }
 {
-    let found = rows_at(rows, &run[start..start + len]);
-    let mut shown = as_hits(*hits.allocator(), found, start as u8, len as u8)?;
+    let found = pairs.under(&run[at.start..at.start + at.len]);
+    let mut shown = as_hits(*hits.allocator(), found, at.start as u8, at.len as u8)?;
     sort_hits(&mut shown)?;
     hits.append(&mut shown)?;
     Ok(())
@@ -96,5 +72,6 @@ fn as_hit(row: &KeyRow, start: u8, len: u8) -> Hit
         len,
         phrase: row.phrase.copy(),
         freq: row.freq,
+        hidden: is_hidden(row),
     }
 }

@@ -1,11 +1,11 @@
 ghost use Rattle.chew_spec_dictionary.specs.Look.{shown_hit_cmp};
 ghost use Rattle.std.specs.Prelude.{◌≡◌, ◌<◌, ◌^◌, OnOk, OnErr, length};
-ghost use Rattle.chew_spec_syllable.specs.Row.{image_cmp};
+ghost use Rattle.chew_spec_syllable.specs.Row.{image_cmp, pair_cmp};
 ghost use Rattle.chew_spec_dictionary.specs.Order.{in_order};
 ghost use Rattle.chew_plain.specs.Order.{key_cmp};
 
 use crate::hit::Hit;
-use chew_syllable::{KeyRow, NoMemory, Syllable};
+use chew_syllable::{Key, KeyRow, NoMemory, Phrase, Syllable};
 use std::cmp::Ordering;
 
 /// How two keys stand in image order.
@@ -18,14 +18,21 @@ pub(crate) fn key_order(key: &[Syllable], other: &[Syllable]) -> Ordering
     }
 }
 
+/// How a row and a pair stand in image order.
+pub(crate) fn pair_order(row: &KeyRow, key: &Key, phrase: &Phrase) -> Ordering
+    ensures { result ≡ pair_cmp row.now.key row.now.phrase key.now phrase.now }
+{
+    match key_order(row.key.list(), key.list()) {
+        Ordering::Equal => row.phrase.text().cmp(phrase.text()),
+        unequal => unequal,
+    }
+}
+
 /// How two rows stand in image order.
 pub fn image_order(row: &KeyRow, other: &KeyRow) -> Ordering
     ensures { result ≡ image_cmp row.now other.now }
 {
-    match key_order(row.key.list(), other.key.list()) {
-        Ordering::Equal => row.phrase.text().cmp(other.phrase.text()),
-        unequal => unequal,
-    }
+    pair_order(row, &other.key, &other.phrase)
 }
 
 /// How two hits of one interval are shown.

@@ -1,16 +1,17 @@
-ghost use Rattle.std.specs.Prelude.{◌≡◌, ◌<◌, ◌^◌, IsTrue, IfOk, length};
+ghost use Rattle.std.specs.Prelude.{◌≡◌, ◌-◌, ◌<◌, ◌≤◌, ◌^◌, IsTrue, IfOk, drop, length, take};
 ghost use Rattle.std.specs.List.{list_all};
 ghost use Rattle.chew_spec_syllable.specs.Row.{image_cmp, is_row, no_pair_twice};
 ghost use Rattle.chew_spec_dictionary.specs.Dictionary.{is_map};
 ghost use Rattle.chew_spec_dictionary.specs.Order.{in_order};
 ghost use Rattle.chew_spec_dictionary.specs.System.{rows_of, rows_under};
 
-use crate::find::{freq_among, peak_among, rows_at};
+use crate::find::{freq_among, peak_among, places_at, rows_at};
 use crate::kept::all_are_rows;
 use crate::lexicon::{Lexicon, RowRef};
 use crate::order::sort_rows;
 use chew_syllable::{KeyRow, NoMemory, Syllable};
 use std::marker::Model;
+use std::ops::Range;
 
 /// Rows in image order, in memory: by the length of the key, then its syllables, then the phrase's bytes.
 #[derive(Debug, Drop)]
@@ -44,12 +45,21 @@ impl RowMap {
         Ok(RowMap { rows })
     }
 
-    fn found(&self, key: &[Syllable]) -> &[KeyRow]
-        ensures value { result.now ≡ rows_of self.now key.now }
-        ensures under { result.now ≡ rows_under self.now key.now }
-        ensures few { length result.now < 2 ^ 32 }
+    /// The places of a key's rows.
+    fn places_of(&self, key: &[Syllable]) -> Range<usize>
+        ensures order { result.start ≤ result.end }
+        ensures end { result.end ≤ length self.now }
+        ensures value { take (result.end - result.start) (drop result.start self.now) ≡ rows_of self.now key.now }
+        ensures few { length self.now < 2 ^ 32 }
         ensures each { IsTrue (list_all is_row self.now) }
         ensures map { IsTrue (is_map self.now) }
+    {
+        places_at(self.rows.as_slice(), key)
+    }
+
+    /// The rows of a key.
+    fn found(&self, key: &[Syllable]) -> &[KeyRow]
+        ensures { result.now ≡ rows_under self.now key.now }
     {
         rows_at(self.rows.as_slice(), key)
     }
@@ -58,12 +68,13 @@ impl RowMap {
 impl Lexicon for RowMap {
     ghost rows = { λ map. map };
 
-    fn count(&self, key: &[Syllable]) -> u32 {
-        self.found(key).len() as u32
+    fn places(&self, key: &[Syllable]) -> Range<u32> {
+        let places = self.places_of(key);
+        places.start as u32..places.end as u32
     }
 
-    fn row(&self, key: &[Syllable], i: u32) -> RowRef<'_> {
-        let row = &self.found(key)[i as usize];
+    fn row_at(&self, place: u32) -> RowRef<'_> {
+        let row = &self.rows[place as usize];
         RowRef {
             phrase: row.phrase.text(),
             freq: row.freq,

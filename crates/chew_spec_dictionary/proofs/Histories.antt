@@ -2,7 +2,7 @@
 use Rattle.std.proofs.Common.{◌≡◌, ℕ, ◌+◌, Bool, true, false, List, [], ◌∷◌, ◌++◌, ◌&&◌, length, cond, refl, ap, sym, ◌∙◌, eqb, arith}
 use Rattle.std.proofs.lemmas.Bool.{eq-eqb}
 use Rattle.std.proofs.lemmas.List.Elements.{filter-append}
-use Rattle.chew_spec_dictionary.specs.Call.{Call, Look, Learn, Forget, Freeze, Install, Reply}
+use Rattle.chew_spec_dictionary.specs.Call.{Call, Look, Learn, Forget, Hide, Freeze, Install, Reply}
 use Rattle.chew_spec_dictionary.specs.History.{Point, Entry, after, replies, own, is_legal, is_legal_entry, answer}
 
 -- the point after two histories is that after the second, from the point after the first
@@ -50,6 +50,7 @@ place_one : (p : Point) (call : Call) → (answer p call).point.place ≡ p.plac
 place_one p (Look run) = omega arith
 place_one p (Learn key phrase orig peak) = omega arith
 place_one p (Forget key phrase) = omega arith
+place_one p (Hide key phrase) = omega arith
 place_one p Freeze = omega arith
 place_one p (Install number) = omega arith
 

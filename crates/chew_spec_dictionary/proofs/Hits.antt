@@ -8,6 +8,7 @@ use Rattle.std.proofs.lemmas.List.Sorted.{All-permutation, Contains-permutation}
 use Rattle.std.proofs.lemmas.Slice.Eq.{bytes_eq-Decides}
 use Rattle.chew_spec_syllable.specs.Row.{Row}
 use Rattle.chew_spec_dictionary.specs.Call.{Hit}
+use Rattle.chew_spec_dictionary.specs.Hidden.{is_hidden}
 use Rattle.chew_spec_dictionary.specs.Order.{in_order}
 use Rattle.chew_spec_dictionary.specs.System.{rows_under, is_under}
 use Rattle.chew_spec_dictionary.specs.Look.{Interval, intervals, codes_at, shown_cmp, hit_of, hits_of}
@@ -87,7 +88,7 @@ hits_at rows run at = map (hit_of at) (in_order shown_cmp (rows_under rows (code
 
 -- a hit is a row whose key is an interval of 1 to 11 syllables of the run
 abbrev pub IsRowOfRun : List Row → List ℕ → Hit → Type 0
-IsRowOfRun rows run hit = ((1 ≤ hit.len) × (hit.len ≤ 11) × (hit.start + hit.len ≤ length run)) × ((row : Row) × Contains rows row × (row.key ≡ take hit.len (drop hit.start run)) × (row.phrase ≡ hit.phrase) × (row.freq ≡ hit.freq))
+IsRowOfRun rows run hit = ((1 ≤ hit.len) × (hit.len ≤ 11) × (hit.start + hit.len ≤ length run)) × ((row : Row) × Contains rows row × (row.key ≡ take hit.len (drop hit.start run)) × (row.phrase ≡ hit.phrase) × (row.freq ≡ hit.freq) × (is_hidden row ≡ hit.hidden))
 
 -- the hits of an interval are such
 hits_at_rows : (rows : List Row) (run : List ℕ) (at : Interval) → IsWithin (length run) at → All (IsRowOfRun rows run) (hits_at rows run at)
@@ -95,7 +96,7 @@ hits_at_rows rows run at w =
     let under = rows_under rows (codes_at run at) in
     All-map (IsRowOfRun rows run) (hit_of at) (in_order shown_cmp under)
     (All-permutation (λ (row : Row). IsRowOfRun rows run (hit_of at row)) under (in_order shown_cmp under) (order_permutes shown_cmp under)
-    (All-weaker (Contains under) (λ (row : Row). IsRowOfRun rows run (hit_of at row)) (λ row h. let u = under_key rows (codes_at run at) row h in (w, (row, u.0, u.1, refl, refl))) under (All-contains_itself under)))
+    (All-weaker (Contains under) (λ (row : Row). IsRowOfRun rows run (hit_of at row)) (λ row h. let u = under_key rows (codes_at run at) row h in (w, (row, u.0, u.1, refl, refl, refl))) under (All-contains_itself under)))
 
 -- every hit is such
 pub hit_is_row : (rows : List Row) (run : List ℕ) (hit : Hit) → Contains (hits_of rows run) hit → IsRowOfRun rows run hit
@@ -105,7 +106,7 @@ hit_is_row rows run hit h = All-contains (IsRowOfRun rows run) (flat_map (hits_a
     (All-weaker (IsWithin (length run)) (λ (at : Interval). All (IsRowOfRun rows run) (hits_at rows run at)) (λ at w. hits_at_rows rows run at w) (intervals (length run)) (intervals_within (length run)))) h
 
 -- a row whose key is an interval of the run is a hit of it
-pub row_is_hit : (rows : List Row) (run : List ℕ) (row : Row) (start len : ℕ) → Contains rows row → (1 ≤ len) × (len ≤ 11) × (start + len ≤ length run) → row.key ≡ take len (drop start run) → Contains (hits_of rows run) (record { start = start; len = len; phrase = row.phrase; freq = row.freq })
+pub row_is_hit : (rows : List Row) (run : List ℕ) (row : Row) (start len : ℕ) → Contains rows row → (1 ≤ len) × (len ≤ 11) × (start + len ≤ length run) → row.key ≡ take len (drop start run) → Contains (hits_of rows run) (record { start = start; len = len; phrase = row.phrase; freq = row.freq; hidden = is_hidden row })
 unfolding hits_of
 row_is_hit rows run row start len h w e =
     let at : Interval = record { start = start; len = len } in

@@ -1,9 +1,9 @@
--- Freezes and installs change no later answer to a look-up, a learn or a forget.
+-- Freezes and installs change no later answer to any other call.
 use Rattle.std.proofs.Common.{◌≡◌, ℕ, Bool, true, false, List, [], ◌∷◌, ◌&&◌, not, refl, ap, ap₂, sym, ◌∙◌, cond, eqb, ◌==◌, if◌then◌else◌}
 use Rattle.std.specs.List.{filter}
 use Rattle.std.proofs.lemmas.Bool.{and_parts, eqb-true, cond-false, ne_eqb, not-true, true≢false}
-use Rattle.chew_spec_dictionary.specs.Call.{Call, Look, Learn, Forget, Freeze, Install, Reply, Rows, is_proper}
-use Rattle.chew_spec_dictionary.specs.Dictionary.{Dictionary, learn, forget}
+use Rattle.chew_spec_dictionary.specs.Call.{Call, Look, Learn, Forget, Hide, Freeze, Install, Reply, Rows, is_proper}
+use Rattle.chew_spec_dictionary.specs.Dictionary.{Dictionary, learn, forget, hide}
 use Rattle.chew_spec_dictionary.specs.Look.{hits_of}
 use Rattle.chew_spec_dictionary.specs.History.{Point, Entry, answer, after, replies, is_keepers, is_legal, is_legal_entry, installs_waiting}
 
@@ -12,6 +12,7 @@ same_left : (p q : Point) (call : Call) → p.dictionary ≡ q.dictionary → (a
 same_left p q (Look run) e = e
 same_left p q (Learn key phrase orig peak) e = ap (λ (d : Dictionary). (learn d key phrase orig peak).left) e
 same_left p q (Forget key phrase) e = ap (λ (d : Dictionary). (forget d key phrase).left) e
+same_left p q (Hide key phrase) e = ap (λ (d : Dictionary). (hide d key phrase).left) e
 same_left p q Freeze e = e
 same_left p q (Install number) e = e
 
@@ -20,6 +21,7 @@ same_reply : (p q : Point) (call : Call) → p.dictionary ≡ q.dictionary → i
 same_reply p q (Look run) e k = ap (λ (d : Dictionary). Rows (hits_of d.pairs run)) e
 same_reply p q (Learn key phrase orig peak) e k = ap (λ (d : Dictionary). (learn d key phrase orig peak).reply) e
 same_reply p q (Forget key phrase) e k = ap (λ (d : Dictionary). (forget d key phrase).reply) e
+same_reply p q (Hide key phrase) e k = ap (λ (d : Dictionary). (hide d key phrase).reply) e
 same_reply p q Freeze e k = absurd (true≢false k)
 same_reply p q (Install number) e k = absurd (true≢false k)
 
@@ -28,6 +30,7 @@ keepers_same : (p : Point) (call : Call) → is_keepers call ≡ true → (answe
 keepers_same p (Look run) k = refl
 keepers_same p (Learn key phrase orig peak) k = absurd (true≢false (sym k))
 keepers_same p (Forget key phrase) k = absurd (true≢false (sym k))
+keepers_same p (Hide key phrase) k = absurd (true≢false (sym k))
 keepers_same p Freeze k = refl
 keepers_same p (Install number) k = refl
 
@@ -47,7 +50,7 @@ left_without p q (e ∷ h) same = by (is_keepers e.call) refl (left_without (ans
     by true k skipped taken = skipped (keepers_same p e.call k ∙ same)
     by false k skipped taken = taken (same_left p q e.call same)
 
--- the dictionary after a history is that after its look-ups, learns and forgets
+-- the dictionary after a history is that after its other calls
 pub dictionary_without : (p : Point) (h : List Entry) → (after p h).dictionary ≡ (after p (without_keepers h)).dictionary
 dictionary_without p h = left_without p p h refl
 

@@ -1,20 +1,21 @@
 -- What a learn and a forget change.
-use Rattle.std.proofs.Common.{◌≡◌, ◌↔◌, ◌⊎◌, inl, inr, ⊎_elim, ℕ, ◌+◌, ◌-◌, ◌^◌, ◌≤◌, ◌<◌, min, max, true, false, List, length, refl, ap, sym, ◌∙◌, cond, subst, eqb, leb, if◌then◌else◌, ◌==◌, Option, Some, None, is_some, arith}
-use Rattle.std.proofs.lemmas.Bool.{cond_both, cond-true, cond-false, lt-leb, leb-true, leb-false, cases_Bool, true≢false}
+use Rattle.std.proofs.Common.{◌≡◌, ◌↔◌, ◌⊎◌, inl, inr, ⊎_elim, ℕ, ◌+◌, ◌-◌, ◌^◌, ◌≤◌, ◌<◌, min, max, true, false, List, length, refl, ap, sym, ◌∙◌, cond, subst, leb, if◌then◌else◌, ◌==◌, Option, Some, None, is_some, arith}
+use Rattle.std.proofs.lemmas.Bool.{and_right, eqb-true, false_from_ne_true, cond_both, cond-true, cond-false, lt-leb, leb-true, leb-false, cases_Bool, true≢false}
 use Rattle.chew_spec_syllable.specs.Row.{Row}
 use Rattle.chew_spec_dictionary.specs.Call.{Learned, Full, Forgot, NotThere}
+use Rattle.chew_spec_dictionary.specs.Hidden.{can_hide, is_hidden, shown_rows}
 use Rattle.chew_spec_dictionary.specs.System.{row_of, peak_of}
 use Rattle.chew_spec_dictionary.specs.Frequency.{update}
-use Rattle.chew_spec_dictionary.specs.Dictionary.{Dictionary, Outcome, learn, learned, learn_new, relearned_freq, forget, without}
+use Rattle.chew_spec_dictionary.specs.Dictionary.{Dictionary, Outcome, learn, learned, unless_full, first_freq, held_freq, relearned_freq, time_of_learn, forget, without}
 use Rattle.chew_spec_dictionary.proofs.Pairs.{key_found, put_found, put_others, other_pair, without_gone, without_others}
 
 -- a learn of a pair that is held
-pub learn_of_held : (had : Dictionary) (key phrase : List ℕ) (orig peak : ℕ) (row : Row) → row_of had.pairs key phrase ≡ Some row → learn had key phrase orig peak ≡ learned had key phrase (relearned_freq had row orig peak)
+pub learn_of_held : (had : Dictionary) (key phrase : List ℕ) (orig peak : ℕ) (row : Row) → row_of had.pairs key phrase ≡ Some row → learn had key phrase orig peak ≡ learned had key phrase (held_freq had row orig peak)
 unfolding learn
 learn_of_held had key phrase orig peak row e = rw e refl
 
 -- a learn of a pair that is not held
-pub learn_of_new : (had : Dictionary) (key phrase : List ℕ) (orig peak : ℕ) → row_of had.pairs key phrase ≡ None → learn had key phrase orig peak ≡ learn_new had key phrase orig
+pub learn_of_new : (had : Dictionary) (key phrase : List ℕ) (orig peak : ℕ) → row_of had.pairs key phrase ≡ None → learn had key phrase orig peak ≡ unless_full had (learned had key phrase (first_freq orig))
 unfolding learn
 learn_of_new had key phrase orig peak e = rw e refl
 
@@ -28,28 +29,37 @@ pub learn_cases : (had : Dictionary) (key phrase : List ℕ) (orig peak : ℕ) �
     ((row_of had.pairs key phrase ≡ None) × (had.cap ≤ length had.pairs) × (learn had key phrase orig peak ≡ record { left = had; reply = Full }))
     ⊎ ((freq : ℕ) × (learn had key phrase orig peak ≡ learned had key phrase freq) × ((row_of had.pairs key phrase ≡ None) × (had.cap ≤ length had.pairs) → ⊥))
 learn_cases had key phrase orig peak = ⊎_elim
-    (λ (h : (row : Row) × (row_of had.pairs key phrase ≡ Some row)). inr (relearned_freq had h.0 orig peak, learn_of_held had key phrase orig peak h.0 h.1, λ n. true≢false (ap is_some (sym h.1 ∙ n.0))))
+    (λ (h : (row : Row) × (row_of had.pairs key phrase ≡ Some row)). inr (held_freq had h.0 orig peak, learn_of_held had key phrase orig peak h.0 h.1, λ n. true≢false (ap is_some (sym h.1 ∙ n.0))))
     (λ (n : row_of had.pairs key phrase ≡ None). ⊎_elim
     (λ (t : leb had.cap (length had.pairs) ≡ true). inl (n, leb-true _ _ t, learn_of_new had key phrase orig peak n ∙ cond-true _ _ _ t))
-    (λ (f : leb had.cap (length had.pairs) ≡ false). inr (cond (eqb orig 0) 1 orig, learn_of_new had key phrase orig peak n ∙ cond-false _ _ _ f, λ b. let less = leb-false had.cap (length had.pairs) f in omega arith))
+    (λ (f : leb had.cap (length had.pairs) ≡ false). inr (first_freq orig, learn_of_new had key phrase orig peak n ∙ cond-false _ _ _ f, λ b. let less = leb-false had.cap (length had.pairs) f in omega arith))
     (cases_Bool (leb had.cap (length had.pairs))))
     (held_or_not (row_of had.pairs key phrase))
 
--- a pair that is held gets the updated frequency
-pub reply_of_held : (had : Dictionary) (key phrase : List ℕ) (orig peak : ℕ) (row : Row) → row_of had.pairs key phrase ≡ Some row → (learn had key phrase orig peak).reply ≡ Learned (update row.freq orig (max (max orig peak) (peak_of had.pairs key)) (had.life - row.time)) had.life
-reply_of_held had key phrase orig peak row e =
-    ap (λ (o : Outcome). o.reply) (learn_of_held had key phrase orig peak row e)
-    ∙ ap (λ (k : List ℕ). Learned (update row.freq orig (max (max orig peak) (peak_of had.pairs k)) (had.life - row.time)) had.life) (key_found had.pairs key phrase row e)
+-- the reply to a learn of a pair that is held tells its new frequency
+told_held : (had : Dictionary) (key phrase : List ℕ) (orig peak freq : ℕ) (row : Row) → row_of had.pairs key phrase ≡ Some row → held_freq had row orig peak ≡ freq → (learn had key phrase orig peak).reply ≡ Learned freq (time_of_learn had)
+told_held had key phrase orig peak freq row e f = ap (λ (o : Outcome). o.reply) (learn_of_held had key phrase orig peak row e) ∙ ap (λ (n : ℕ). Learned n (time_of_learn had)) f
+
+-- a pair that is held and not hidden gets the updated frequency
+pub reply_of_held : (had : Dictionary) (key phrase : List ℕ) (orig peak : ℕ) (row : Row) → row_of had.pairs key phrase ≡ Some row → is_hidden row ≡ false → (learn had key phrase orig peak).reply ≡ Learned (update row.freq orig (max (max orig peak) (peak_of (shown_rows had.pairs) key)) (had.life - row.time)) (min had.life (2 ^ 64 - 2))
+reply_of_held had key phrase orig peak row e h =
+    told_held had key phrase orig peak _ row e
+    (cond-false (is_hidden row) (first_freq orig) (relearned_freq had row orig peak) h
+    ∙ ap (λ (k : List ℕ). update row.freq orig (max (max orig peak) (peak_of (shown_rows had.pairs) k)) (had.life - row.time)) (key_found had.pairs key phrase row e))
+
+-- a pair that is hidden gets the frequency of a new one
+pub reply_of_hidden : (had : Dictionary) (key phrase : List ℕ) (orig peak : ℕ) (row : Row) → row_of had.pairs key phrase ≡ Some row → is_hidden row ≡ true → (learn had key phrase orig peak).reply ≡ Learned (if orig == 0 then 1 else orig) (min had.life (2 ^ 64 - 2))
+reply_of_hidden had key phrase orig peak row e h = told_held had key phrase orig peak _ row e (cond-true (is_hidden row) (first_freq orig) (relearned_freq had row orig peak) h)
 
 -- a new pair gets the system's frequency, or 1
-pub reply_of_new : (had : Dictionary) (key phrase : List ℕ) (orig peak : ℕ) → row_of had.pairs key phrase ≡ None → length had.pairs < had.cap → (learn had key phrase orig peak).reply ≡ Learned (if orig == 0 then 1 else orig) had.life
+pub reply_of_new : (had : Dictionary) (key phrase : List ℕ) (orig peak : ℕ) → row_of had.pairs key phrase ≡ None → length had.pairs < had.cap → (learn had key phrase orig peak).reply ≡ Learned (if orig == 0 then 1 else orig) (min had.life (2 ^ 64 - 2))
 reply_of_new had key phrase orig peak n less = ap (λ (o : Outcome). o.reply) (learn_of_new had key phrase orig peak n ∙ cond-false _ _ _ (lt-leb had.cap (length had.pairs) less))
 
 -- what learning gave a frequency answers and leaves is no Full
 not_full : (had : Dictionary) (key phrase : List ℕ) (orig peak freq : ℕ) → learn had key phrase orig peak ≡ learned had key phrase freq → (learn had key phrase orig peak).reply ≡ Full → ⊥
 not_full had key phrase orig peak freq e f = told (sym (ap (λ (o : Outcome). o.reply) e) ∙ f)
   where
-    told : Learned freq had.life ≡ Full → ⊥
+    told : Learned freq (time_of_learn had) ≡ Full → ⊥
     told q = cc
 
 -- Full comes exactly where a new pair finds the map full
@@ -67,13 +77,13 @@ full_same had key phrase orig peak r = ⊎_elim
     (learn_cases had key phrase orig peak)
 
 -- a reply Learned tells what learning gave
-learned_where : (had : Dictionary) (key phrase : List ℕ) (orig peak freq time : ℕ) → (learn had key phrase orig peak).reply ≡ Learned freq time → (learn had key phrase orig peak ≡ learned had key phrase freq) × (time ≡ had.life)
+learned_where : (had : Dictionary) (key phrase : List ℕ) (orig peak freq time : ℕ) → (learn had key phrase orig peak).reply ≡ Learned freq time → (learn had key phrase orig peak ≡ learned had key phrase freq) × (time ≡ time_of_learn had)
 learned_where had key phrase orig peak freq time r = ⊎_elim
     (λ (f : (row_of had.pairs key phrase ≡ None) × (had.cap ≤ length had.pairs) × (learn had key phrase orig peak ≡ record { left = had; reply = Full })). absurd (told (sym (ap (λ (o : Outcome). o.reply) f.2) ∙ r)))
     (λ (l : (freq : ℕ) × (learn had key phrase orig peak ≡ learned had key phrase freq) × ((row_of had.pairs key phrase ≡ None) × (had.cap ≤ length had.pairs) → ⊥)).
-    let same : Learned l.0 had.life ≡ Learned freq time = sym (ap (λ (o : Outcome). o.reply) l.1) ∙ r in
+    let same : Learned l.0 (time_of_learn had) ≡ Learned freq time = sym (ap (λ (o : Outcome). o.reply) l.1) ∙ r in
     let freqs : l.0 ≡ freq = cc in
-    let times : time ≡ had.life = cc in
+    let times : time ≡ time_of_learn had = cc in
     (l.1 ∙ ap (learned had key phrase) freqs, times))
     (learn_cases had key phrase orig peak)
   where
@@ -85,8 +95,23 @@ pub pair_learned : (had : Dictionary) (key phrase : List ℕ) (orig peak freq ti
 pair_learned had key phrase orig peak freq time r =
     let l = learned_where had key phrase orig peak freq time r in
     ap (λ (o : Outcome). row_of o.left.pairs key phrase) l.0
-    ∙ put_found (record { key = key; phrase = phrase; freq = freq; time = had.life }) had.pairs
+    ∙ put_found (record { key = key; phrase = phrase; freq = freq; time = time_of_learn had }) had.pairs
     ∙ ap (λ (t : ℕ). let row : Row = record { key = key; phrase = phrase; freq = freq; time = t } in Some row) (sym l.1)
+
+-- the time of a learn is not that of a hidden pair
+not_hidden_time : (life : ℕ) → (min life (2 ^ 64 - 2) == 2 ^ 64 - 1) ≡ false
+not_hidden_time life = false_from_ne_true _ (λ t. let e = eqb-true (min life (2 ^ 64 - 2)) (2 ^ 64 - 1) t in omega arith)
+
+-- a learn that is not Full leaves the pair, and leaves it not hidden
+pub shown_learned : (had : Dictionary) (key phrase : List ℕ) (orig peak : ℕ) (row : Row) → ((learn had key phrase orig peak).reply ≡ Full → ⊥) → row_of (learn had key phrase orig peak).left.pairs key phrase ≡ Some row → is_hidden row ≡ false
+shown_learned had key phrase orig peak row r e = ⊎_elim
+    (λ (f : (row_of had.pairs key phrase ≡ None) × (had.cap ≤ length had.pairs) × (learn had key phrase orig peak ≡ record { left = had; reply = Full })). absurd (r (ap (λ (o : Outcome). o.reply) f.2)))
+    (λ (l : (freq : ℕ) × (learn had key phrase orig peak ≡ learned had key phrase freq) × ((row_of had.pairs key phrase ≡ None) × (had.cap ≤ length had.pairs) → ⊥)).
+    let put : Row = record { key = key; phrase = phrase; freq = l.0; time = time_of_learn had } in
+    let found : Some put ≡ Some row = sym (put_found put had.pairs) ∙ sym (ap (λ (o : Outcome). row_of o.left.pairs key phrase) l.1) ∙ e in
+    let same : put ≡ row = cc in
+    ap is_hidden (sym same) ∙ and_right (can_hide key) _ (not_hidden_time had.life))
+    (learn_cases had key phrase orig peak)
 
 -- a fact that holds where a learn is Full and where it gives a frequency
 pub by_learn : (had : Dictionary) (key phrase : List ℕ) (orig peak : ℕ) (P : Dictionary → Type 0) → P had → ((freq : ℕ) → P (learned had key phrase freq).left) → P (learn had key phrase orig peak).left
@@ -97,7 +122,7 @@ by_learn had key phrase orig peak P full gave = ⊎_elim
 
 -- a learn changes no other pair
 pub others_learned : (had : Dictionary) (key phrase : List ℕ) (orig peak : ℕ) (k p : List ℕ) → (key ≡ k → phrase ≡ p → ⊥) → row_of (learn had key phrase orig peak).left.pairs k p ≡ row_of had.pairs k p
-others_learned had key phrase orig peak k p other = by_learn had key phrase orig peak (λ d. row_of d.pairs k p ≡ row_of had.pairs k p) refl (λ freq. let row : Row = record { key = key; phrase = phrase; freq = freq; time = had.life } in put_others row had.pairs k p (other_pair row k p other))
+others_learned had key phrase orig peak k p other = by_learn had key phrase orig peak (λ d. row_of d.pairs k p ≡ row_of had.pairs k p) refl (λ freq. let row : Row = record { key = key; phrase = phrase; freq = freq; time = time_of_learn had } in put_others row had.pairs k p (other_pair row k p other))
 
 -- a learn that is not Full raises the life by one
 pub life_learned : (had : Dictionary) (key phrase : List ℕ) (orig peak : ℕ) → ((learn had key phrase orig peak).reply ≡ Full → ⊥) → (learn had key phrase orig peak).left.life ≡ min (had.life + 1) (2 ^ 64 - 1)
@@ -168,12 +193,12 @@ cap_forgot had key phrase = by_forget had key phrase (λ o. o.left.cap ≡ had.c
 -- a fact that holds of what is left where a learn is Full, where the pair is held, and where it is new
 pub by_kind : (had : Dictionary) (key phrase : List ℕ) (orig peak : ℕ) (P : Dictionary → Type 0) →
     P had
-    → ((row : Row) → row_of had.pairs key phrase ≡ Some row → P (learned had key phrase (relearned_freq had row orig peak)).left)
-    → (row_of had.pairs key phrase ≡ None → length had.pairs < had.cap → P (learned had key phrase (if orig == 0 then 1 else orig)).left)
+    → ((row : Row) → row_of had.pairs key phrase ≡ Some row → P (learned had key phrase (held_freq had row orig peak)).left)
+    → (row_of had.pairs key phrase ≡ None → length had.pairs < had.cap → P (learned had key phrase (first_freq orig)).left)
     → P (learn had key phrase orig peak).left
 by_kind had key phrase orig peak P full held new = ⊎_elim
     (λ (h : (row : Row) × (row_of had.pairs key phrase ≡ Some row)). subst (λ (o : Outcome). P o.left) (sym (learn_of_held had key phrase orig peak h.0 h.1)) (held h.0 h.1))
-    (λ (n : row_of had.pairs key phrase ≡ None). subst (λ (o : Outcome). P o.left) (sym (learn_of_new had key phrase orig peak n)) (cond_both (leb had.cap (length had.pairs)) (record { left = had; reply = Full }) (learned had key phrase (if orig == 0 then 1 else orig)) (λ o. P o.left)
+    (λ (n : row_of had.pairs key phrase ≡ None). subst (λ (o : Outcome). P o.left) (sym (learn_of_new had key phrase orig peak n)) (cond_both (leb had.cap (length had.pairs)) (record { left = had; reply = Full }) (learned had key phrase (first_freq orig)) (λ o. P o.left)
     (λ t. full)
     (λ f. new n (leb-false had.cap (length had.pairs) f))))
     (held_or_not (row_of had.pairs key phrase))

@@ -3,13 +3,15 @@ use Rattle.std.proofs.Common.{◌≡◌, ℕ, Bool, true, false, List, [], ◌�
 use Rattle.std.specs.List.{list_all, filter}
 use Rattle.std.proofs.lemmas.Bool.{cond_both, and_parts, and_from, cases_Bool}
 use Rattle.chew_spec_syllable.specs.Row.{Row, image_cmp, is_pair_of}
+use Rattle.chew_spec_dictionary.specs.Hidden.{hidden_time}
 use Rattle.chew_spec_dictionary.specs.System.{row_of}
-use Rattle.chew_spec_dictionary.specs.Dictionary.{Dictionary, put_row, is_map, learn, forget}
-use Rattle.chew_spec_dictionary.specs.Call.{Call, Look, Learn, Forget, Freeze, Install}
+use Rattle.chew_spec_dictionary.specs.Dictionary.{Dictionary, put_row, is_map, learn, forget, hide, time_of_learn}
+use Rattle.chew_spec_dictionary.specs.Call.{Call, Look, Learn, Forget, Hide, Freeze, Install}
 use Rattle.chew_spec_dictionary.specs.History.{Point, Entry, answer, after}
 use Rattle.chew_spec_dictionary.proofs.ImageOrder.{image_total, by_cases, turned, tie_is_pair, of_pair, is_of_pair, apart}
 use Rattle.chew_spec_dictionary.proofs.Pairs.{found_first, found_later}
 use Rattle.chew_spec_dictionary.proofs.Learning.{by_learn, by_forget}
+use Rattle.chew_spec_dictionary.proofs.Hiding.{by_hidden, some_not_none}
 
 -- a row is below each of these rows
 abbrev pub BelowAll : Row → List Row → Type 0
@@ -75,17 +77,22 @@ filter_keeps test (row ∷ rows) m =
 
 -- a learn keeps a map
 pub learn_keeps : (had : Dictionary) (key phrase : List ℕ) (orig peak : ℕ) → is_map had.pairs ≡ true → is_map (learn had key phrase orig peak).left.pairs ≡ true
-learn_keeps had key phrase orig peak m = by_learn had key phrase orig peak (λ d. is_map d.pairs ≡ true) m (λ freq. let row : Row = record { key = key; phrase = phrase; freq = freq; time = had.life } in put_keeps row had.pairs m)
+learn_keeps had key phrase orig peak m = by_learn had key phrase orig peak (λ d. is_map d.pairs ≡ true) m (λ freq. let row : Row = record { key = key; phrase = phrase; freq = freq; time = time_of_learn had } in put_keeps row had.pairs m)
 
 -- a forget keeps a map
 pub forget_keeps : (had : Dictionary) (key phrase : List ℕ) → is_map had.pairs ≡ true → is_map (forget had key phrase).left.pairs ≡ true
 forget_keeps had key phrase m = by_forget had key phrase (λ o. is_map o.left.pairs ≡ true) (λ _. m) (λ _. filter_keeps (λ row. not (is_pair_of key phrase row)) had.pairs m)
+
+-- a hide keeps a map
+pub hide_keeps : (had : Dictionary) (key phrase : List ℕ) → is_map had.pairs ≡ true → is_map (hide had key phrase).left.pairs ≡ true
+hide_keeps had key phrase m = by_hidden had key phrase (λ d. is_map d.pairs ≡ true) m (λ freq. let row : Row = record { key = key; phrase = phrase; freq = freq; time = hidden_time } in put_keeps row had.pairs m)
 
 -- every call keeps a map
 pub answer_keeps : (p : Point) (call : Call) → is_map p.dictionary.pairs ≡ true → is_map (answer p call).point.dictionary.pairs ≡ true
 answer_keeps p (Look run) m = m
 answer_keeps p (Learn key phrase orig peak) m = learn_keeps p.dictionary key phrase orig peak m
 answer_keeps p (Forget key phrase) m = forget_keeps p.dictionary key phrase m
+answer_keeps p (Hide key phrase) m = hide_keeps p.dictionary key phrase m
 answer_keeps p Freeze m = m
 answer_keeps p (Install number) m = m
 
@@ -113,10 +120,6 @@ rest_alike x y xs ys heads bx by' key phrase same = ⊎_elim
     (λ (t : is_pair_of key phrase x ≡ true). absent_of key phrase x xs bx t ∙ sym (absent_of key phrase y ys by' (ap (is_pair_of key phrase) (sym heads) ∙ t)))
     (λ (f : is_pair_of key phrase x ≡ false). sym (found_later key phrase x xs f) ∙ same ∙ found_later key phrase y ys (ap (is_pair_of key phrase) (sym heads) ∙ f))
     (cases_Bool (is_pair_of key phrase x))
-
--- something is not nothing
-pub some_not_none : (row : Row) → Some row ≡ None → ⊥
-some_not_none row e = cc
 
 -- a row below the head of a map is not in it
 pub missing : (x y : Row) (ys : List Row) → image_cmp x y ≡ Less → BelowAll y ys → row_of (y ∷ ys) x.key x.phrase ≡ None

@@ -2,7 +2,7 @@
 use Rattle.std.proofs.Common.{◌≡◌, ℕ, suc, ◌≤◌, ◌<◌, true, false, List, [], ◌∷◌, length, sym, ◌==◌, subst, Option, Some, None, true≢false, unwrap_or, arith}
 use Rattle.std.specs.Option.{option_map_or}
 use Rattle.std.proofs.lemmas.Bool.{eqb-true}
-use Rattle.chew_spec_dictionary.specs.Call.{Call, Look, Learn, Forget, Freeze, Install}
+use Rattle.chew_spec_dictionary.specs.Call.{Call, Look, Learn, Forget, Hide, Freeze, Install}
 use Rattle.chew_spec_dictionary.specs.Dictionary.{Dictionary}
 use Rattle.chew_spec_dictionary.specs.History.{Point, Entry, answer, after, is_legal, installs_waiting, start_of}
 use Rattle.chew_spec_dictionary.proofs.Histories.{place_after}
@@ -37,6 +37,7 @@ answer_ordered : (p : Point) (call : Call) → installs_waiting p call ≡ true 
 answer_ordered p (Look run) w o = order_later p.shape.installed p.place p.shape.waiting o
 answer_ordered p (Learn key phrase orig peak) w o = order_later p.shape.installed p.place p.shape.waiting o
 answer_ordered p (Forget key phrase) w o = order_later p.shape.installed p.place p.shape.waiting o
+answer_ordered p (Hide key phrase) w o = order_later p.shape.installed p.place p.shape.waiting o
 answer_ordered p Freeze w o = order_frozen p.shape.installed p.place p.shape.waiting o
 answer_ordered p (Install number) w o = order_installed p.shape.installed p.place number p.shape.waiting o w
 

@@ -1,8 +1,8 @@
 -- The history of the user's dictionary: the calls that were made, and what a plain map answers to them.
 use Rattle.std.specs.Prelude.{ℕ, suc, Bool, true, false, not, ◌&&◌, List, [], ◌∷◌, map, filter, ◌==◌, Option, Some, None, unwrap_or, if◌then◌else◌}
 use Rattle.std.specs.Option.{option_map_or}
-use Rattle.chew_spec_dictionary.specs.Call.{Call, Look, Learn, Forget, Freeze, Install, Reply, Rows, Frozen, Installed, is_proper}
-use Rattle.chew_spec_dictionary.specs.Dictionary.{Dictionary, Outcome, learn, forget}
+use Rattle.chew_spec_dictionary.specs.Call.{Call, Look, Learn, Forget, Hide, Freeze, Install, Reply, Rows, Frozen, Installed, is_proper}
+use Rattle.chew_spec_dictionary.specs.Dictionary.{Dictionary, Outcome, learn, forget, hide}
 use Rattle.chew_spec_dictionary.specs.Look.{hits_of}
 
 -- a call, and the number of who made it
@@ -47,6 +47,7 @@ abbrev pub answer : Point → Call → Answered
 answer p (Look run) = changed p (record { left = p.dictionary; reply = Rows (hits_of p.dictionary.pairs run) })
 answer p (Learn key phrase orig peak) = changed p (learn p.dictionary key phrase orig peak)
 answer p (Forget key phrase) = changed p (forget p.dictionary key phrase)
+answer p (Hide key phrase) = changed p (hide p.dictionary key phrase)
 answer p Freeze = reshaped p (record p.shape { waiting = Some (waiting_after_freeze p) }) (Frozen (waiting_after_freeze p))
 answer p (Install number) = reshaped p (record { installed = number; waiting = None }) Installed
 
@@ -70,17 +71,22 @@ replies p (e ∷ es) who =
     then (answer p e.call).reply ∷ replies (answer p e.call).point es who
     else replies (answer p e.call).point es who
 
--- only the number 0 freezes and installs
+-- the call is one of those that the keeper makes, whose number is 0, and nobody else: it freezes or installs
 abbrev pub is_keepers : Call → Bool
 is_keepers Freeze = true
 is_keepers (Install number) = true
 is_keepers _ = false
+
+-- the call is one that anyone but the keeper may make, and at any point
+abbrev pub is_user_call : Call → Bool
+is_user_call call = not (is_keepers call) && is_proper call
 
 -- an install names the number that waits
 abbrev pub installs_waiting : Point → Call → Bool
 installs_waiting p (Install number) = option_map_or (λ waits. waits == number) p.shape.waiting false
 installs_waiting p _ = true
 
+-- the keeper's calls are made by the keeper alone, and each call meets its condition at its place
 abbrev pub is_legal_entry : Point → Entry → Bool
 is_legal_entry p e = (if e.who == 0 then is_keepers e.call else not (is_keepers e.call)) && (is_proper e.call && installs_waiting p e.call)
 

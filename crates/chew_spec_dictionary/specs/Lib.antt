@@ -2,7 +2,10 @@ pub mod Call
 pub mod Dictionary
 pub mod FiveRows
 pub mod Frequency
+pub mod Growth
+pub mod Hidden
 pub mod History
+pub mod Known
 pub mod Look
 pub mod Order
 pub mod System

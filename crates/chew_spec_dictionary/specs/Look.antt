@@ -6,6 +6,7 @@ use Rattle.std.specs.Ordering.{nat_cmp, ordering_then}
 use Rattle.std.specs.Cmp.Lexicographic.{slice_cmp}
 use Rattle.chew_spec_syllable.specs.Row.{Row}
 use Rattle.chew_spec_dictionary.specs.Call.{Hit}
+use Rattle.chew_spec_dictionary.specs.Hidden.{is_hidden}
 use Rattle.chew_spec_dictionary.specs.Order.{in_order}
 use Rattle.chew_spec_dictionary.specs.System.{rows_under}
 
@@ -32,12 +33,12 @@ shown_hit_cmp hit other = ordering_then (nat_cmp other.freq hit.freq) (slice_cmp
 
 -- the row as a hit of the interval
 abbrev pub hit_of : Interval → Row → Hit
-hit_of at row = record { start = at.start; len = at.len; phrase = row.phrase; freq = row.freq }
+hit_of at row = record { start = at.start; len = at.len; phrase = row.phrase; freq = row.freq; hidden = is_hidden row }
 
 -- the order of hits: by start, then length, then as phrases are shown
 abbrev pub hit_cmp : Hit → Hit → Ordering
 hit_cmp hit other = ordering_then (nat_cmp hit.start other.start) (ordering_then (nat_cmp hit.len other.len) (shown_hit_cmp hit other))
 
--- all rows of all intervals
+-- all rows of all intervals, each with whether it is hidden
 unfoldable pub hits_of : List Row → List ℕ → List Hit
 hits_of rows run = flat_map (λ at. map (hit_of at) (in_order shown_cmp (rows_under rows (codes_at run at)))) (intervals (length run))

@@ -1,10 +1,13 @@
 //! Laws and known values of the definitions.
 
 mod counts;
+mod growth;
+mod hiding;
 mod histories;
 mod hits;
 mod invariants;
 mod learning;
+mod legal;
 mod maps;
 mod order;
 mod pairs;

@@ -15,6 +15,8 @@ pub fn lists_in_order<T>()
 /// Where only equal elements tie, it doesn't matter in which order a list was before: there is one
 /// sorted list of its elements, and that is the list in order.
 pub fn one_list_in_order<T>()
-    ensures same { (cmp : T → T → Ordering) → IsTotalOrder cmp → (xs ys : List T) → ((x y : T) → Contains xs x → Contains xs y → cmp x y ≡ Equal → x ≡ y) → IsPermutation xs ys → in_order cmp xs ≡ in_order cmp ys }
-    ensures only { (cmp : T → T → Ordering) → IsTotalOrder cmp → (xs ys : List T) → ((x y : T) → Contains xs x → Contains xs y → cmp x y ≡ Equal → x ≡ y) → IsPermutation xs ys → IsSorted cmp ys → in_order cmp xs ≡ ys }
+    ensures same { (cmp : T → T → Ordering) → IsTotalOrder cmp → (xs ys : List T)
+        → ((x y : T) → Contains xs x → Contains xs y → cmp x y ≡ Equal → x ≡ y) → IsPermutation xs ys → in_order cmp xs ≡ in_order cmp ys }
+    ensures only { (cmp : T → T → Ordering) → IsTotalOrder cmp → (xs ys : List T)
+        → ((x y : T) → Contains xs x → Contains xs y → cmp x y ≡ Equal → x ≡ y) → IsPermutation xs ys → IsSorted cmp ys → in_order cmp xs ≡ ys }
 {}

@@ -19,7 +19,9 @@ pub fn orders_of_rows()
     ensures phrase { IsTotalOrder phrase_cmp }
     ensures shown { IsTotalOrder shown_cmp }
     ensures hits { IsTotalOrder shown_hit_cmp }
-    ensures image_parts { (row other : Row) → image_cmp row other ≡ ordering_then (nat_cmp (length row.key) (length other.key)) (ordering_then (slice_cmp nat_cmp row.key other.key) (slice_cmp nat_cmp row.phrase other.phrase)) }
+    ensures image_parts { (row other : Row)
+        → image_cmp row other
+        ≡ ordering_then (nat_cmp (length row.key) (length other.key)) (ordering_then (slice_cmp nat_cmp row.key other.key) (slice_cmp nat_cmp row.phrase other.phrase)) }
     ensures image_ties { (row other : Row) → image_cmp row other ≡ Equal → (row.key ≡ other.key) × (row.phrase ≡ other.phrase) }
 {}
 
@@ -29,8 +31,10 @@ pub fn orders_of_rows()
 pub fn rows_with_no_pair_twice()
     ensures map { (rows : List Row) → is_map rows ≡ true → no_pair_twice rows ≡ true }
     ensures found { (rows : List Row) (row : Row) → no_pair_twice rows ≡ true → Contains rows row → row_of rows row.key row.phrase ≡ Some row }
-    ensures phrases { (rows : List Row) (key : List ℕ) (ys : List Row) → no_pair_twice rows ≡ true → IsPermutation (rows_under rows key) ys → IsSorted phrase_cmp ys → rows_of rows key ≡ ys }
-    ensures shown { (rows : List Row) (key : List ℕ) (ys : List Row) → no_pair_twice rows ≡ true → IsPermutation (rows_under rows key) ys → IsSorted shown_cmp ys → in_order shown_cmp (rows_under rows key) ≡ ys }
+    ensures phrases { (rows : List Row) (key : List ℕ) (ys : List Row) → no_pair_twice rows ≡ true → IsPermutation (rows_under rows key) ys
+        → IsSorted phrase_cmp ys → rows_of rows key ≡ ys }
+    ensures shown { (rows : List Row) (key : List ℕ) (ys : List Row) → no_pair_twice rows ≡ true → IsPermutation (rows_under rows key) ys
+        → IsSorted shown_cmp ys → in_order shown_cmp (rows_under rows key) ≡ ys }
     ensures already { (rows : List Row) (key : List ℕ) → is_map rows ≡ true → rows_of rows key ≡ rows_under rows key }
 {}
 
@@ -39,15 +43,20 @@ pub fn rows_with_no_pair_twice()
 pub fn greatest_of_a_key()
     ensures rows { (rows : List Row) (key : List ℕ) (row : Row) → Contains (rows_under rows key) row → row.freq ≤ peak_of rows key }
     ensures pair { (rows : List Row) (key phrase : List ℕ) → freq_of rows key phrase ≤ peak_of rows key }
-    ensures reached { (rows : List Row) (key : List ℕ) → (peak_of rows key ≡ 0) ⊎ ((row : Row) × Contains (rows_under rows key) row × (row.freq ≡ peak_of rows key)) }
+    ensures reached { (rows : List Row) (key : List ℕ)
+        → (peak_of rows key ≡ 0) ⊎ ((row : Row) × Contains (rows_under rows key) row × (row.freq ≡ peak_of rows key)) }
 {}
 
 /// What rows answer, with no condition on them: the look-up of a pair finds one of the rows, of that
-/// pair, and None only where there is none; the rows under a key are those that have it; and a
+/// pair, and None only where there is none; the frequency of a pair is its row's, or 0; the rows under a key are those that have it; and a
 /// syllable has a row by itself exactly where a row has it as its key.
 pub fn look_ups_of_rows()
-    ensures found { (rows : List Row) (key phrase : List ℕ) (row : Row) → row_of rows key phrase ≡ Some row → Contains rows row × (row.key ≡ key) × (row.phrase ≡ phrase) }
-    ensures none { (rows : List Row) (key phrase : List ℕ) (row : Row) → row_of rows key phrase ≡ None → Contains rows row → row.key ≡ key → row.phrase ≢ phrase }
+    ensures found { (rows : List Row) (key phrase : List ℕ) (row : Row) → row_of rows key phrase ≡ Some row
+        → Contains rows row × (row.key ≡ key) × (row.phrase ≡ phrase) }
+    ensures none { (rows : List Row) (key phrase : List ℕ) (row : Row) → row_of rows key phrase ≡ None → Contains rows row → row.key ≡ key
+        → row.phrase ≢ phrase }
+    ensures freq { (rows : List Row) (key phrase : List ℕ) (row : Row) → row_of rows key phrase ≡ Some row → freq_of rows key phrase ≡ row.freq }
+    ensures no_freq { (rows : List Row) (key phrase : List ℕ) → row_of rows key phrase ≡ None → freq_of rows key phrase ≡ 0 }
     ensures under { (rows : List Row) (key : List ℕ) (row : Row) → Contains (rows_under rows key) row ↔ (Contains rows row × (row.key ≡ key)) }
     ensures single { (rows : List Row) (code : ℕ) → (has_single rows code ≡ true) ↔ ((row : Row) × Contains rows row × (row.key ≡ code ∷ [])) }
 {}

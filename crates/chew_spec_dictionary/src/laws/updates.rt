@@ -27,9 +27,14 @@ pub fn bounds_of_update()
 /// The update by its table: soon is before 4000 learns, later before 50,000, and late from then on.
 /// A sum above the greatest frequency is the greatest.
 pub fn updates_by_table()
-    ensures soon_met { (freq orig greatest ticks : ℕ) → ticks < 4000 → greatest ≤ freq → update freq orig greatest ticks ≡ min 99_999_999 (freq + min ((greatest - orig) / 5 + 1) 10) }
-    ensures soon_below { (freq orig greatest ticks : ℕ) → ticks < 4000 → freq < greatest → update freq orig greatest ticks ≡ min 99_999_999 (freq + max ((greatest - orig) / 5 + 1) 10) }
-    ensures later_met { (freq orig greatest ticks : ℕ) → 4000 ≤ ticks → ticks < 50_000 → greatest ≤ freq → update freq orig greatest ticks ≡ min 99_999_999 (freq + min ((greatest - orig) / 10 + 1) 5) }
-    ensures later_below { (freq orig greatest ticks : ℕ) → 4000 ≤ ticks → ticks < 50_000 → freq < greatest → update freq orig greatest ticks ≡ min 99_999_999 (freq + max ((greatest - orig) / 10 + 1) 5) }
-    ensures late { (freq orig greatest ticks : ℕ) → 50_000 ≤ ticks → update freq orig greatest ticks ≡ min 99_999_999 (max (freq - max ((freq - orig) / 5) 10) orig) }
+    ensures soon_met { (freq orig greatest ticks : ℕ) → ticks < 4000 → greatest ≤ freq
+        → update freq orig greatest ticks ≡ min 99_999_999 (freq + min ((greatest - orig) / 5 + 1) 10) }
+    ensures soon_below { (freq orig greatest ticks : ℕ) → ticks < 4000 → freq < greatest
+        → update freq orig greatest ticks ≡ min 99_999_999 (freq + max ((greatest - orig) / 5 + 1) 10) }
+    ensures later_met { (freq orig greatest ticks : ℕ) → 4000 ≤ ticks → ticks < 50_000 → greatest ≤ freq
+        → update freq orig greatest ticks ≡ min 99_999_999 (freq + min ((greatest - orig) / 10 + 1) 5) }
+    ensures later_below { (freq orig greatest ticks : ℕ) → 4000 ≤ ticks → ticks < 50_000 → freq < greatest
+        → update freq orig greatest ticks ≡ min 99_999_999 (freq + max ((greatest - orig) / 10 + 1) 5) }
+    ensures late { (freq orig greatest ticks : ℕ) → 50_000 ≤ ticks
+        → update freq orig greatest ticks ≡ min 99_999_999 (max (freq - max ((freq - orig) / 5) 10) orig) }
 {}

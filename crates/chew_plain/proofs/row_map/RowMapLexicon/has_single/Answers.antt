@@ -7,5 +7,5 @@ use Rattle.chew_plain.proofs.row_map.RowMapLexicon.has_single.Goals as goal
 
 pub returns : goal.returns
 returns c =
-    ap not (c.is_empty.ensures ∙ ap (λ (l : List Row). length l == 0) c.found.ensures.under)
+    ap not (c.is_empty.ensures ∙ ap (λ (l : List Row). length l == 0) c.found.ensures)
     ∙ any_kept (is_under (c.args.s ∷ [])) c.args.self.now

@@ -10,5 +10,5 @@ use Rattle.chew_plain.proofs.row_map.RowMapLexicon.orig_and_peak.Goals as goal
 pub returns-clause-orig : goal.returns-clause-orig
 returns-clause-orig c =
     c.freq_among.ensures
-    ∙ ap (λ (l : List Row). option_map_or (λ (row : Row). row.freq) (find (λ (row : Row). bytes_eq row.phrase c.args.phrase.now) l) 0) c.found-found.ensures.under
+    ∙ ap (λ (l : List Row). option_map_or (λ (row : Row). row.freq) (find (λ (row : Row). bytes_eq row.phrase c.args.phrase.now) l) 0) c.found-found.ensures
     ∙ ap (λ (o : Option Row). option_map_or (λ (row : Row). row.freq) o 0) (row_among c.args.key.now c.args.phrase.now c.args.self.now)

@@ -1,5 +1,5 @@
 -- Each law is a lemma.
-use Rattle.chew_spec_dictionary.proofs.Learning.{full_same, pair_learned, others_learned, life_learned, cap_learned}
+use Rattle.chew_spec_dictionary.proofs.Learning.{shown_learned, full_same, pair_learned, others_learned, life_learned, cap_learned}
 use Rattle.chew_spec_dictionary.proofs.laws.learning.left_by_learn.Goals as goal
 
 pub returns-clause-full : goal.returns-clause-full
@@ -16,3 +16,6 @@ returns-clause-life c = life_learned
 
 pub returns-clause-cap : goal.returns-clause-cap
 returns-clause-cap c = cap_learned
+
+pub returns-clause-shown : goal.returns-clause-shown
+returns-clause-shown c = shown_learned

@@ -1,8 +1,0 @@
--- One length more.
-use Rattle.std.proofs.Common.{◌+◌}
-use Rattle.chew_plain.specs.Look.{hits_at, interval}
-use Rattle.chew_plain.proofs.Looks.{part_more}
-use Rattle.chew_plain.proofs.look.push_from.Goals as goal
-
-pub loop-len-preserved : goal.loop-len-preserved
-loop-len-preserved c = part_more (λ len. hits_at c.args.rows.now c.args.run.now (interval c.args.start len)) _ _ _ c.loop-len.len (c.min-limit.result + 1) c.loop-len-test.true c.in_ok-push_at.ensures c.loop-len.invariant

@@ -1,0 +1,16 @@
+-- The row is put over the one that stands at the place, or in there.
+use Rattle.std.proofs.Common.{ap, sym, ◌∙◌}
+use Rattle.chew_spec_syllable.specs.Row.{Row}
+use Rattle.chew_plain.proofs.Standing.{put_over_there, put_in_there}
+use Rattle.chew_plain.proofs.places.put.Goals as goal
+
+pub returns-in-Ok-clause-ok : goal.returns-in-Ok-clause-ok
+returns-in-Ok-clause-ok c =
+    sym (put_over_there c.args.rows.now.items c.as_slice.result.now c.as_slice.ensures.value c.in-Ok.place c.args.row c.requires.map c.row.inside.key c.row.inside.phrase
+    (sym (ap (λ (r : Row). r.key) c.row.view_is)) (sym (ap (λ (r : Row). r.phrase) c.row.view_is)) c.in-Ok.ensures.ok)
+
+pub returns-in_ok-insert-in-Err-clause-ok : goal.returns-in_ok-insert-in-Err-clause-ok
+returns-in_ok-insert-in-Err-clause-ok c =
+    c.in_ok-insert-in-Err.ensures.items
+    ∙ sym (put_in_there c.args.rows.now.items c.as_slice.result.now c.as_slice.ensures.value c.in-Err.place c.args.row c.row.inside.key c.row.inside.phrase
+    (sym (ap (λ (r : Row). r.key) c.row.view_is)) (sym (ap (λ (r : Row). r.phrase) c.row.view_is)) c.in-Err.ensures.err)
