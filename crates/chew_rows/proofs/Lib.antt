@@ -1,6 +1,5 @@
-pub mod Digits
 pub mod FirstField
 pub mod Keys
-pub mod Lines
 pub mod Pairs
 pub mod Rows
+pub mod Text

@@ -5,9 +5,9 @@ use Rattle.std.proofs.lemmas.Bool.{cond-true}
 use Rattle.chew_spec_syllable.specs.Phrase.{is_phrase}
 use Rattle.chew_spec_syllable.specs.Row.{Row}
 use Rattle.chew_spec_text.specs.DictionaryText as spec
-use Rattle.chew_spec_text.specs.DictionaryText.{codes_in, fields_in, fields_of, freq_in, is_hash, row_in, row_with, with_fields, with_row}
-use Rattle.chew_spec_text.specs.Lines.{without_return}
+use Rattle.chew_spec_text.specs.DictionaryText.{codes_in, fields_in, freq_in, is_hash, row_in, row_with, with_fields, with_row}
 use Rattle.chew_rows.specs.Fields.{codes_of_text, key_for}
+use Rattle.chew_rows.specs.Lines.{taken}
 
 -- a new row of these parts
 abbrev pub row_of_parts : List ℕ → List ℕ → ℕ → Row
@@ -38,7 +38,7 @@ row_keyed phrase digits behind fields freq characters outcome p e f same h =
     ∙ (keyed phrase freq (codes_in (fields_in behind)) ∙ ap (with_key phrase freq) (ap (λ (n : ℕ). key_for n (codes_in (fields_in behind))) (sym same) ∙ h))))
 
 -- the row of a line
-pub line_row : (rows : List Row) (line stripped content phrase rest : List ℕ) (row : Row) → stripped ≡ without_return line → content ≡ before_first is_hash stripped
-    → fields_in content ≡ phrase ∷ fields_in rest → row_in phrase (fields_in rest) ≡ Ok row → with_row rows (Ok row) ≡ with_fields rows (fields_of (without_return line))
-line_row rows line stripped content phrase rest row s c e h =
-    sym (ap (λ (l : List ℕ). with_fields rows (fields_of l)) (sym s) ∙ (ap (λ (l : List ℕ). with_fields rows (fields_in l)) (sym c) ∙ (ap (with_fields rows) e ∙ ap (with_row rows) h)))
+pub line_row : (rows : List Row) (line content phrase rest : List ℕ) (row : Row) → content ≡ before_first is_hash line
+    → fields_in content ≡ phrase ∷ fields_in rest → row_in phrase (fields_in rest) ≡ Ok row → with_row rows (Ok row) ≡ taken rows line
+line_row rows line content phrase rest row c e h =
+    sym (ap (λ (l : List ℕ). with_fields rows (fields_in l)) (sym c) ∙ (ap (with_fields rows) e ∙ ap (with_row rows) h))

@@ -1,18 +1,6 @@
 ghost use Rattle.std.specs.Prelude.{◌≡◌, ◌<◌, ◌∷◌, [], not, length, position, IfSome, IfNone};
 ghost use Rattle.std.specs.List.{before_first};
 ghost use Rattle.chew_spec_text.specs.DictionaryText.{fields_in, is_hash, is_separator};
-ghost use Rattle.chew_spec_text.specs.Lines.{without_return};
-
-/// The line without the carriage return at its end.
-pub(crate) fn without_return(line: &[u8]) -> &[u8]
-    ensures { result.now ≡ without_return line.now }
-{
-    if line.ends_with(b"\r") {
-        &line[..line.len() - 1]
-    } else {
-        line
-    }
-}
 
 /// What stands before the comment of a line.
 pub(crate) fn before_comment(line: &[u8]) -> &[u8]
@@ -37,10 +25,8 @@ pub(crate) fn first_field(text: &[u8]) -> Option<(&[u8], &[u8])>
     ensures shorter { IfSome result (λ parts. length parts.1.now < length text.now) }
     ensures none { IfNone result (fields_in text.now ≡ []) }
 {
-    let text = match field_place(text) {
-        Some(place) => &text[place..],
-        None => return None,
-    };
+    let start = field_place(text)?;
+    let text = &text[start..];
     match separator_place(text) {
         Some(place) => Some((&text[..place], &text[place + 1..])),
         None => Some((text, &[])),

@@ -4,12 +4,14 @@
 mod cause;
 mod fields;
 mod frequency;
-mod line;
+mod limits;
 mod pair;
-mod printing;
-mod reading;
+mod row_line;
+mod rows_printer;
+mod rows_reader;
 mod syllables;
 
 pub use cause::{RowCause, RowsFault};
-pub use printing::print_rows;
-pub use reading::read_rows;
+pub use limits::{ROWS_LIMIT, SYSTEM_LIMIT};
+pub use rows_printer::print_rows;
+pub use rows_reader::read_rows;

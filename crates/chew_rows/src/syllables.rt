@@ -2,7 +2,7 @@ ghost use Rattle.std.specs.Prelude.{◌≡◌, ◌≤◌, Ok, Err, IfOk, IfErr, 
 ghost use Rattle.std.specs.Option.{is_some};
 ghost use Rattle.chew_spec_text.specs.DictionaryText as spec;
 ghost use Rattle.chew_rows.specs.Fields.{codes_of_text, key_for};
-ghost use Rattle.chew_rows.specs.Told.{cause_of};
+ghost use Rattle.chew_rows.specs.Faults.{cause_of};
 
 use crate::cause::RowCause;
 use crate::fields::first_field;

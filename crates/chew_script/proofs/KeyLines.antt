@@ -1,14 +1,13 @@
 -- What a line of keys says.
-use Rattle.std.proofs.Common.{◌≡◌, ℕ, ◌≤◌, ◌<◌, Bool, true, false, List, ◌∷◌, ◌++◌, length, ◌&&◌, nat_le, bytes_eq, decimal, Option, Some, None, IfSome, Err, refl, ap, ◌∙◌, sym, if◌then◌else◌}
+use Rattle.std.proofs.Common.{◌≡◌, ℕ, ◌≤◌, Bool, true, false, List, ◌∷◌, ◌++◌, ◌&&◌, nat_le, bytes_eq, decimal, Option, Some, None, IfSome, Err, refl, ap, ◌∙◌, sym, if◌then◌else◌}
 use Rattle.std.specs.Fmt.{digits}
-use Rattle.std.specs.Char.{is_ascii_digit}
 use Rattle.std.specs.List.{list_all, range_with_len}
-use Rattle.std.proofs.lemmas.Bool.{and_parts, cond-true, cond-false, leb-true, le-leb}
-use Rattle.chew_spec_text.specs.DictionaryText.{is_number}
+use Rattle.std.proofs.lemmas.Bool.{and_parts, cond-true, cond-false, leb-true}
+use Rattle.chew_spec_text.specs.Digits.{is_number}
 use Rattle.chew_spec_text.specs.KeyStroke.{keys_in}
 use Rattle.chew_spec_text.specs.Script as spec
 use Rattle.chew_spec_text.specs.Script.{context_in, key_line, key_line_of}
-use Rattle.chew_script.proofs.Cuts.{Lacks, before_it, behind_it, stands, stands_not}
+use Rattle.chew_text.proofs.Cuts.{Lacks, before_it, behind_it, stands, stands_not}
 use Rattle.chew_script.proofs.Tables.{kept}
 
 pub colon_line : (front keys : List ℕ) → Lacks 58 front
@@ -30,10 +29,6 @@ no_number_line line front keys whole h digits e =
 
 pub no_digits_line : (line front keys : List ℕ) → line ≡ front ++ 58 ∷ keys → Lacks 58 front → is_number front ≡ false → Err spec.Form ≡ key_line_of line
 no_digits_line line front keys whole h digits = sym (ap key_line_of whole ∙ (colon_line front keys h ∙ cond-false _ _ _ digits))
-
--- digits, one at least
-pub is_number_all : (text : List ℕ) → 0 < length text → list_all is_ascii_digit text ≡ is_number text
-is_number_all text h = ap (λ (b : Bool). b && list_all is_ascii_digit text) (sym (le-leb 1 (length text) h))
 
 -- the number of a context is 1 to 16
 abbrev is_of_context : ℕ → Bool

@@ -9,7 +9,7 @@ use Rattle.std.proofs.lemmas.List.Splits.{slice_split-cons_no}
 use Rattle.std.proofs.lemmas.Slice.Eq.{bytes_eq-Decides}
 use Rattle.chew_spec_text.specs.KeyStroke.{KeyStroke, Char, NamedKey, key_names, key_named, keys_behind, keys_in, keys_in_parts, keys_of_parts}
 use Rattle.chew_script.proofs.Tables.{kept}
-use Rattle.chew_script.proofs.Cuts.{Lacks, lacks_head, lacks_tail, before_it, behind_it, stands, stands_not}
+use Rattle.chew_text.proofs.Cuts.{Lacks, lacks_head, lacks_tail, before_it, behind_it, stands, stands_not}
 
 -- '<' and '>'
 abbrev pub opens : ℕ → Bool

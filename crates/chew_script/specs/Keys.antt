@@ -3,7 +3,7 @@ use Rattle.std.specs.Prelude.{List, map}
 use Rattle.std.specs.Global.{Vec}
 use Rattle.chew_spec_text.specs.KeyStroke as spec
 use Rattle.chew_script.specs.declared.keystroke.KeyStroke.{KeyStroke}
-use Rattle.chew_script.specs.declared.keystroke.KeyStroke.TheVariants.{Char, Enter, Backspace, Delete, Left, Right, Home, End, Up, Down, PageUp, PageDown, Tab, Esc, Add, Forget}
+use Rattle.chew_script.specs.declared.keystroke.KeyStroke.TheVariants.{Char, Enter, Backspace, Delete, Left, Right, Home, End, Up, Down, PageUp, PageDown, Tab, Esc, Add, Forget, Hide}
 
 -- the definition's key
 abbrev pub key_of : KeyStroke → spec.KeyStroke
@@ -23,6 +23,7 @@ key_of Tab = spec.Tab
 key_of Esc = spec.Esc
 key_of (Add cells) = spec.Add cells
 key_of (Forget cells) = spec.Forget cells
+key_of (Hide cells) = spec.Hide cells
 
 -- the definition's keys
 abbrev pub keys_of : List KeyStroke → List spec.KeyStroke

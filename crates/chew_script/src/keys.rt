@@ -5,10 +5,10 @@ ghost use Rattle.chew_spec_text.specs.Script.{Key};
 ghost use Rattle.chew_script.specs.Faults.{Gives};
 ghost use Rattle.chew_script.specs.Keys.{key_of, keys_of};
 
-use crate::cut::cut_at;
 use crate::fault::{LineFault, ScriptCause};
 use crate::keystroke::KeyStroke;
 use crate::names::key_named;
+use chew_text::cut_at;
 
 /// Appends the keys that a text names.
 pub(crate) fn push_keys(keys: &mut Vec<KeyStroke>, text: &[u8]) -> Result<(), LineFault>
@@ -52,11 +52,7 @@ fn first_name(text: &[u8]) -> Option<(KeyStroke, &[u8])>
     ensures shorter { IfSome result (λ first. length first.1.now < length text.now) }
     ensures none { IfNone result (keys_in (60 ∷ text.now) ≡ None) }
 {
-    match cut_at(text, b'>') {
-        Some((name, rest)) => match key_named(name) {
-            Some(key) => Some((key, rest)),
-            None => None,
-        },
-        None => None,
-    }
+    let (name, rest) = cut_at(text, b'>')?;
+    let key = key_named(name)?;
+    Some((key, rest))
 }

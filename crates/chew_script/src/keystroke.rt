@@ -33,4 +33,6 @@ pub enum KeyStroke {
     Add(u8),
     /// Takes the phrase of this many cells, 1 to 9, from it.
     Forget(u8),
+    /// Hides the phrase of this many cells, 2 to 9, whether the user or the system has it.
+    Hide(u8),
 }

@@ -2,25 +2,25 @@
 #![tactic(auto)]
 
 mod contexts;
-mod cut;
-mod decimal;
 mod entry;
 mod fault;
 mod keys;
 mod keystroke;
-mod line;
+mod limits;
 mod names;
 mod note;
-mod reading;
+mod output_line;
+mod partial_script;
 mod script;
 mod script_line;
 mod text;
 
 pub use contexts::Contexts;
-pub use entry::print_entry;
+pub use entry::{append_entry, print_entry};
 pub use fault::{ScriptCause, ScriptFault};
 pub use keystroke::KeyStroke;
-pub use line::{Line, print_line};
+pub use limits::{CONTEXTS_LIMIT, KEYS_LIMIT, ROUNDS_LIMIT, SCRIPT_LIMIT};
 pub use note::Note;
+pub use output_line::{Line, append_line, print_line};
 pub use script::{Script, read_script};
 pub use text::Text;

@@ -6,9 +6,10 @@ ghost use Rattle.chew_script.specs.Keys.{key_of};
 ghost use Rattle.chew_script.specs.Table.{beside};
 
 use crate::keystroke::KeyStroke;
+use crate::limits::CONTEXTS_LIMIT;
 
 /// The names of keys, which a script writes between `<` and `>`.
-const KEY_NAMES: [(&[u8], KeyStroke); 31] = [
+const KEY_NAMES: [(&[u8], KeyStroke); 39] = [
     (b"E", KeyStroke::Enter),
     (b"B", KeyStroke::Backspace),
     (b"D", KeyStroke::Delete),
@@ -40,10 +41,18 @@ const KEY_NAMES: [(&[u8], KeyStroke); 31] = [
     (b"F7", KeyStroke::Forget(7)),
     (b"F8", KeyStroke::Forget(8)),
     (b"F9", KeyStroke::Forget(9)),
+    (b"K2", KeyStroke::Hide(2)),
+    (b"K3", KeyStroke::Hide(3)),
+    (b"K4", KeyStroke::Hide(4)),
+    (b"K5", KeyStroke::Hide(5)),
+    (b"K6", KeyStroke::Hide(6)),
+    (b"K7", KeyStroke::Hide(7)),
+    (b"K8", KeyStroke::Hide(8)),
+    (b"K9", KeyStroke::Hide(9)),
 ];
 
 /// The numbers of contexts, as a script writes them.
-const NUMBERS: [(&[u8], u8); 16] = [
+const NUMBERS: [(&[u8], u8); CONTEXTS_LIMIT] = [
     (b"1", 1),
     (b"2", 2),
     (b"3", 3),

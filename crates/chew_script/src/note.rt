@@ -9,19 +9,21 @@ pub enum Note {
     Quiet,
     /// The key could not do what it says.
     Bell,
-    /// The user's dictionary is full: what the key would have learnt was not.
+    /// The user's dictionary is full: what the key would have learnt or hidden was not.
     Full,
     /// The key added a phrase.
     Added,
     /// The key took a phrase away.
     Forgot,
-    /// There was no phrase to take away.
+    /// The key hid a phrase.
+    Hidden,
+    /// There was no phrase to take away, or it was hidden.
     Missing,
 }
 
 /// The text of a note.
-pub(crate) fn note_text(note: Note) -> &'static [u8]
-    ensures { result.now ≡ note_text (note_of note) }
+pub(crate) fn note_text(note: &Note) -> &[u8]
+    ensures { result.now ≡ note_text (note_of note.now) }
 {
     match note {
         Note::Quiet => b"",
@@ -29,6 +31,7 @@ pub(crate) fn note_text(note: Note) -> &'static [u8]
         Note::Full => b"full",
         Note::Added => b"added",
         Note::Forgot => b"forgot",
+        Note::Hidden => b"hidden",
         Note::Missing => b"none",
     }
 }

@@ -1,16 +1,14 @@
 ghost use Rattle.std.specs.Prelude.{◌≡◌, ◌≤◌, ℕ, length, Ok, Err, All, IfOk, IsErrOf};
-ghost use Rattle.chew_spec_text.specs.Lines.{without_return};
 ghost use Rattle.chew_spec_text.specs.Script.{script_of};
 ghost use Rattle.chew_script.specs.Faults.{cause_of};
 
 use crate::contexts::Contexts;
 use crate::fault::{LineFault, ScriptCause, ScriptFault};
-use crate::reading::Reading;
+use crate::limits::SCRIPT_LIMIT;
+use crate::partial_script::PartialScript;
+use chew_text::Lines;
 use std::alloc::Global;
 use std::marker::Model;
-
-/// The most bytes of a script, 1 MiB.
-const SCRIPT_LIMIT: usize = 1_048_576;
 
 /// What a script says.
 #[derive(Debug, Drop)]
@@ -44,12 +42,13 @@ pub fn read_script(alloc: Global, text: &[u8]) -> Result<Script, ScriptFault>
             cause: ScriptCause::Size,
         });
     }
-    let mut reading = Reading::new(alloc);
+    let mut script = PartialScript::new(alloc);
+    let mut lines = Lines::of(text);
     let mut number: u32 = 0;
-    'lines: for line in text.split(|byte| *byte == b'\n') {
+    'lines: while let Some(line) = lines.next_line() {
         number += 1;
-        match reading.with_line(without_return(line)) {
-            Ok(more) => reading = more,
+        match script.with_line(line) {
+            Ok(more) => script = more,
             Err(LineFault::Bad(cause)) => {
                 return Err(ScriptFault::Bad {
                     line: number,
@@ -59,16 +58,5 @@ pub fn read_script(alloc: Global, text: &[u8]) -> Result<Script, ScriptFault>
             Err(LineFault::NoMemory) => return Err(ScriptFault::NoMemory),
         }
     }
-    Ok(reading.script())
-}
-
-/// A line without the carriage return at its end, of which one is dropped.
-fn without_return(line: &[u8]) -> &[u8]
-    ensures { result.now ≡ without_return line.now }
-{
-    if line.ends_with(b"\r") {
-        &line[..line.len() - 1]
-    } else {
-        line
-    }
+    Ok(script.script())
 }

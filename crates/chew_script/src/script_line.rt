@@ -1,14 +1,12 @@
 ghost use Rattle.std.specs.Prelude.{◌≡◌, IfOk};
 ghost use Rattle.std.specs.List.{list_all};
-ghost use Rattle.std.specs.Char.{is_ascii_digit};
-ghost use Rattle.chew_spec_text.specs.DictionaryText as digits;
 ghost use Rattle.chew_spec_text.specs.KeyStroke as spec;
 ghost use Rattle.chew_spec_text.specs.Script.{key_line_of, script_line};
 ghost use Rattle.chew_script.specs.Lines.{HasNumber, line_says};
 
-use crate::cut::cut_at;
 use crate::fault::ScriptCause;
 use crate::names::context_number;
+use chew_text::{cut_at, is_number};
 
 /// What a line of a script says.
 #[derive(Clone, Copy)]
@@ -64,21 +62,4 @@ fn is_printable(line: &[u8]) -> bool
     ensures { result ≡ list_all spec.is_printable line.now }
 {
     line.iter().all(|byte| matches!(*byte, b' '..=b'~'))
-}
-
-/// Whether the text is of digits, one at least.
-fn is_number(text: &[u8]) -> bool
-    ensures { result ≡ digits.is_number text.now }
-{
-    if text.is_empty() {
-        return false;
-    }
-    are_digits(text)
-}
-
-/// Whether all bytes are digits.
-fn are_digits(text: &[u8]) -> bool
-    ensures { result ≡ list_all is_ascii_digit text.now }
-{
-    text.iter().all(|byte| byte.is_ascii_digit())
 }

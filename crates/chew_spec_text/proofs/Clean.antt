@@ -15,7 +15,7 @@ use Rattle.chew_spec_syllable.specs.Syllable.{Parts, is_syllable}
 use Rattle.chew_spec_syllable.specs.SyllableText.{initial_marks, medial_marks, final_marks, tone_marks, mark_text, text_of}
 use Rattle.chew_spec_syllable.proofs.CodeParts.{in_range}
 use Rattle.chew_spec_syllable.proofs.Marks.{Each, at}
-use Rattle.chew_spec_text.specs.DictionaryText.{digits_value, is_number}
+use Rattle.chew_spec_text.specs.Digits.{digits_value, is_number}
 
 -- each byte is '0' or above, so none is a space or a line feed
 abbrev pub clean : List ℕ → Bool

@@ -15,7 +15,8 @@ use Rattle.chew_spec_syllable.specs.Syllable.{Parts, is_code, parts_of}
 use Rattle.chew_spec_syllable.specs.SyllableText.{code_or_place, code_reading, syllable_reading, text_of}
 use Rattle.chew_spec_syllable.proofs.CodeParts.{code_back}
 use Rattle.chew_spec_syllable.proofs.Reading.{text_read}
-use Rattle.chew_spec_text.specs.DictionaryText.{codes_in, digits_value, fields_of, freq_in, is_field, is_separator, row_in, row_with}
+use Rattle.chew_spec_text.specs.Digits.{digits_value}
+use Rattle.chew_spec_text.specs.DictionaryText.{codes_in, fields_of, freq_in, is_field, is_separator, row_in, row_with}
 use Rattle.chew_spec_text.specs.RowText.{spaced, row_text, without_time}
 use Rattle.chew_spec_text.proofs.Clean.{clean, clean_without, clean_phrase, clean_decimal, clean_syllable, decimal_number, decimal_value}
 use Rattle.chew_spec_text.proofs.Comments.{no_comment}

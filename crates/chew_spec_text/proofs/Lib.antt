@@ -1,15 +1,16 @@
 pub mod Clean
 pub mod Comments
-pub mod Contexts
 pub mod EachLine
 pub mod Fields
 pub mod Found
 pub mod KeyNames
 pub mod KeyRange
 pub mod KeyText
+pub mod KeysRead
 pub mod Limited
 pub mod Lines
 pub mod Printing
+pub mod RowFaults
 pub mod Rows
 pub mod Script
 pub mod ScriptFaults

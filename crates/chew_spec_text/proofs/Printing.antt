@@ -5,7 +5,7 @@ use Rattle.std.proofs.lemmas.Bool.{and_parts, and_from, or_from, or_parts, le-le
 use Rattle.std.proofs.lemmas.List.{append-nil, append_assoc, length-append, length-map, map-append}
 use Rattle.std.proofs.lemmas.List.Folds.{list_all-append, list_any-append, flat_map-map}
 use Rattle.chew_spec_syllable.specs.Row.{Row, is_row, is_pair_of, no_pair_twice}
-use Rattle.chew_spec_text.specs.DictionaryText.{Size, Rows, dictionary_rows, rows_limit, system_limit, with_fields, with_row}
+use Rattle.chew_spec_text.specs.DictionaryText.{RowCause, Size, Twice, Rows, dictionary_rows, rows_limit, system_limit, with_fields, with_row}
 use Rattle.chew_spec_text.specs.Line.{with_line_feed}
 use Rattle.chew_spec_text.specs.Lines.{each_line, go_on, is_line, lines_of, without_return}
 use Rattle.chew_spec_text.specs.RowText.{row_text, rows_text, without_time}
@@ -101,24 +101,37 @@ rows_read rows h once few =
     rows_lines rows h (omega arith)
     ∙ behind taken 1 [] (map without_time rows) (map row_text rows) ([] ∷ []) (rows_added 1 [] rows h (still_once rows ∙ once) (omega arith))
 
--- one row too many is told by its line
-pub row_too_many : (rows : List Row) (row : Row) → list_all is_row (rows ++ row ∷ []) ≡ true → no_pair_twice (rows ++ row ∷ []) ≡ true
-    → length rows ≡ 250_000 → dictionary_rows (rows_text (rows ++ row ∷ [])) ≡ Err (record { line = 250_001; cause = Rows })
-row_too_many rows row h once count =
+-- a row more behind rows that are read is told of by its line
+row_behind : (rows : List Row) (row : Row) (cause : RowCause) → list_all is_row (rows ++ row ∷ []) ≡ true → no_pair_twice rows ≡ true
+    → length rows ≡ 250_000 → with_row (map without_time rows) (Ok (without_time row)) ≡ Err cause
+    → dictionary_rows (rows_text (rows ++ row ∷ [])) ≡ Err (record { line = 250_001; cause = cause })
+row_behind rows row cause h once count refused =
     let both = and_parts (list_all is_row rows) (list_all is_row (row ∷ [])) (sym (list_all-append is_row rows (row ∷ [])) ∙ h) in
     let new = map without_time rows in
     let all : length (rows ++ row ∷ []) ≡ length rows + 1 = length-append rows (row ∷ []) in
     let lines : map row_text (rows ++ row ∷ []) ++ [] ∷ [] ≡ map row_text rows ++ (row_text row ∷ ([] ∷ [])) =
     ap (λ ls. ls ++ [] ∷ []) (map-append row_text rows (row ∷ [])) ∙ append_assoc (map row_text rows) (row_text row ∷ []) ([] ∷ []) in
-    let apart : no_pair_twice (new ++ without_time row ∷ []) ≡ true =
-    ap no_pair_twice (sym (map-append without_time rows (row ∷ []))) ∙ (still_once (rows ++ row ∷ []) ∙ once) in
     let number : 1 + length (map row_text rows) ≡ 250_001 = omega (arith, length-map rows row_text) in
-    let full : 250_000 ≤ length new = omega (arith, length-map rows without_time) in
     rows_lines (rows ++ row ∷ []) h (omega arith)
     ∙ (ap (each_line taken 1 []) lines
-    ∙ (behind taken 1 [] new (map row_text rows) (row_text row ∷ ([] ∷ [])) (rows_added 1 [] rows both.0 (once_front new (without_time row ∷ []) apart) (omega arith))
+    ∙ (behind taken 1 [] new (map row_text rows) (row_text row ∷ ([] ∷ [])) (rows_added 1 [] rows both.0 (still_once rows ∙ once) (omega arith))
     ∙ (ap (λ n. each_line taken n new (row_text row ∷ ([] ∷ []))) number
-    ∙ ap (go_on 250_001 (λ next. each_line taken 250_002 next ([] ∷ [])))
-    (row_read new row (and_parts _ _ both.1).0
-    ∙ (cond-false (list_any (is_pair_of row.key row.phrase) new) _ _ (apart_before new (without_time row) [] apart)
-    ∙ cond-true (leb rows_limit (length new)) _ _ (le-leb _ _ full))))))
+    ∙ ap (go_on 250_001 (λ next. each_line taken 250_002 next ([] ∷ []))) (row_read new row (and_parts _ _ both.1).0 ∙ refused))))
+
+-- one row too many
+pub row_too_many : (rows : List Row) (row : Row) → list_all is_row (rows ++ row ∷ []) ≡ true → no_pair_twice (rows ++ row ∷ []) ≡ true
+    → length rows ≡ 250_000 → dictionary_rows (rows_text (rows ++ row ∷ [])) ≡ Err (record { line = 250_001; cause = Rows })
+row_too_many rows row h once count =
+    let new = map without_time rows in
+    let apart : list_any (is_pair_of row.key row.phrase) new ≡ false = same_any row.key row.phrase rows ∙ apart_before rows row [] once in
+    let full : 250_000 ≤ length new = omega (arith, length-map rows without_time) in
+    row_behind rows row Rows h (once_front rows (row ∷ []) once) count
+    (cond-false (list_any (is_pair_of row.key row.phrase) new) _ _ apart ∙ cond-true (leb rows_limit (length new)) _ _ (le-leb _ _ full))
+
+-- a row of an earlier pair is told for that, also where it is one too many
+pub row_again : (rows : List Row) (row : Row) → list_all is_row (rows ++ row ∷ []) ≡ true → no_pair_twice rows ≡ true
+    → list_any (is_pair_of row.key row.phrase) rows ≡ true → length rows ≡ 250_000
+    → dictionary_rows (rows_text (rows ++ row ∷ [])) ≡ Err (record { line = 250_001; cause = Twice })
+row_again rows row h once again count =
+    row_behind rows row Twice h once count
+    (cond-true (list_any (is_pair_of row.key row.phrase) (map without_time rows)) _ _ (same_any row.key row.phrase rows ∙ again))

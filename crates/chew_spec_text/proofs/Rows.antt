@@ -1,5 +1,5 @@
 -- What the lines of a dictionary's text do to its rows.
-use Rattle.std.proofs.Common.{◌≡◌, ℕ, ◌+◌, ◌<◌, ◌≤◌, Bool, true, false, cond, not, ◌&&◌, eqb, leb, ltb, List, [], ◌∷◌, ◌++◌, length, drop, Option, Some, None, Result, Ok, Err, refl, sym, ap, ◌∙◌, subst, arith}
+use Rattle.std.proofs.Common.{◌≡◌, ℕ, ◌+◌, ◌<◌, ◌≤◌, Bool, true, false, cond, ◌&&◌, eqb, leb, ltb, List, [], ◌∷◌, ◌++◌, length, drop, Option, Some, None, Result, Ok, Err, refl, sym, ◌∙◌, subst, arith}
 use lib.Utf8.{encodes}
 use Rattle.std.specs.List.{list_all, list_any}
 use Rattle.std.specs.Option.{option_and_then, option_map}
@@ -15,7 +15,8 @@ use Rattle.chew_spec_syllable.specs.Syllable.{Parts, code_of, is_code}
 use Rattle.chew_spec_syllable.specs.SyllableText.{code_or_place, code_reading, syllable_reading}
 use Rattle.chew_spec_syllable.proofs.CodeParts.{code_is}
 use Rattle.chew_spec_syllable.proofs.Reading.{read_valid}
-use Rattle.chew_spec_text.specs.DictionaryText.{RowCause, Size, Phrase, Lengths, Twice, Rows, codes_in, digits_value, dictionary_rows, fields_of, freq_in, is_number, row_in, row_with, rows_limit, system_limit, with_fields, with_row}
+use Rattle.chew_spec_text.specs.Digits.{digits_value, is_number}
+use Rattle.chew_spec_text.specs.DictionaryText.{RowCause, Size, Phrase, Lengths, Twice, Rows, codes_in, dictionary_rows, fields_of, freq_in, row_in, row_with, rows_limit, system_limit, with_fields, with_row}
 use Rattle.chew_spec_text.specs.Lines.{lines_of}
 use Rattle.chew_spec_text.proofs.EachLine.{keeps}
 use Rattle.chew_spec_text.proofs.Found.{holds_in}
@@ -149,46 +150,6 @@ unfolding dictionary_rows
 rows_proper text rows h =
     keeps Proper taken (λ u t line e. fields_proper u t (fields_of line) e) 1 [] rows (lines_of text)
     (of_lines (leb (length text) system_limit) Size taken [] rows text h) (record { all = refl; once = refl; few = omega arith })
-
--- the size isn't told of a line
-abbrev is_size : RowCause → Bool
-is_size Size = true
-is_size _ = false
-
--- the cause, if there is one, isn't the size
-abbrev is_of_line : {A : Type 0} → Result A RowCause → Bool
-is_of_line (Ok value) = true
-is_of_line (Err cause) = not (is_size cause)
-
--- of what a phrase with a frequency and a key makes
-with_told : (phrase : List ℕ) (freq : Option ℕ) (key : Option (List ℕ)) → is_of_line (row_with phrase freq key) ≡ true
-with_told phrase None key = refl
-with_told phrase (Some freq) None = refl
-with_told phrase (Some freq) (Some key) =
-    cond_both (eqb (length key) (length (chars phrase))) (Ok (record { key = key; phrase = phrase; freq = freq; time = 0 })) (Err Lengths)
-    (λ r. is_of_line r ≡ true) (λ _. refl) (λ _. refl)
-
--- of what it makes of rows
-row_told : (rows : List Row) (r : Result Row RowCause) → is_of_line r ≡ true → is_of_line (with_row rows r) ≡ true
-row_told rows (Err cause) h = h
-row_told rows (Ok row) h =
-    let few = cond (leb rows_limit (length rows)) (Err Rows) (Ok (rows ++ row ∷ [])) in
-    cond_both (list_any (is_pair_of row.key row.phrase) rows) (Err Twice) few (λ r. is_of_line r ≡ true) (λ _. refl)
-    (λ _. cond_both (leb rows_limit (length rows)) (Err Rows) (Ok (rows ++ row ∷ [])) (λ r. is_of_line r ≡ true) (λ _. refl) (λ _. refl))
-
--- of what fields make
-fields_told : (rows : List Row) (fields : List (List ℕ)) → is_of_line (with_fields rows fields) ≡ true
-fields_told rows [] = refl
-fields_told rows (phrase ∷ fields) =
-    row_told rows (row_in phrase fields)
-    (cond_both (is_phrase phrase) (row_with phrase (freq_in fields) (codes_in (drop 1 fields))) (Err Phrase) (λ r. is_of_line r ≡ true)
-    (λ _. with_told phrase (freq_in fields) (codes_in (drop 1 fields))) (λ _. refl))
-
--- no line is refused for the size
-pub never_size : (rows : List Row) (line : List ℕ) (cause : RowCause) → taken rows line ≡ Err cause → cause ≡ Size → ⊥
-never_size rows line cause h e =
-    let no : not (is_size cause) ≡ true = sym (ap is_of_line h) ∙ fields_told rows (fields_of line) in
-    both_ways (is_size cause) (not-true _ no) (ap is_size e)
 
 -- a line without fields changes nothing
 no_field : (rows : List Row) (fields : List (List ℕ)) → ltb 0 (length fields) ≡ false → with_fields rows fields ≡ Ok rows

@@ -7,7 +7,7 @@ use Rattle.std.proofs.lemmas.List.{append-nil, append_assoc}
 use Rattle.chew_spec_text.specs.KeyStroke.{KeyStroke, is_printable, keys_in}
 use Rattle.chew_spec_text.specs.Lines.{each_line, lines_of}
 use Rattle.chew_spec_text.specs.Script.{Script, ScriptCause, Size, Byte, Form, Nothing, Round, context_in, contexts_limit, is_colon, is_key_line, key_line, with_script_line, script_limit, script_line, script_of}
-use Rattle.chew_spec_text.specs.Said.{context_of, is_round, keys_for, says_something}
+use Rattle.chew_spec_text.specs.Statement.{context_of, is_round, keys_for, says_something}
 use Rattle.chew_spec_text.proofs.EachLine.{keeps, folded}
 use Rattle.chew_spec_text.proofs.Found.{holds_in, found_among}
 use Rattle.chew_spec_text.proofs.KeyRange.{all_after, in_range, keys_range}

@@ -7,7 +7,7 @@ use Rattle.std.proofs.lemmas.List.Folds.{list_all-append}
 use Rattle.std.proofs.lemmas.List.Sums.{sum_by-cons}
 use Rattle.chew_spec_text.specs.KeyStroke.{KeyStroke, is_key_stroke}
 use Rattle.chew_spec_text.specs.Script.{Script, ScriptLine, ScriptCause, Nothing, Round, KeyLine, add_keys, keys_count, keys_limit, rounds_limit, with_script_line}
-use Rattle.chew_spec_text.specs.Said.{context_in_said, is_round_said, keys_in_said}
+use Rattle.chew_spec_text.specs.Statement.{context_in_said, is_round_said, keys_in_said}
 
 -- a value that only a test lets through
 passed : {A E : Type 0} (test : Bool) (x t : A) (e : E) → cond test (Ok x) (Err e) ≡ Ok t → (test ≡ true) × (x ≡ t)

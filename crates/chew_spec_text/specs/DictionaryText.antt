@@ -1,13 +1,13 @@
 -- The text of a dictionary: in each line a phrase, its frequency and its syllables, and the first fault. The form is
 -- this project's own, after libchewing's dictionary text.
-use Rattle.std.specs.Prelude.{ℕ, ◌+◌, ◌-◌, ◌*◌, Bool, ◌&&◌, ◌||◌, List, [], ◌∷◌, ◌++◌, length, drop, filter, fold, chars, ◌==◌, nat_lt, nat_le, Option, Some, None, Result, Ok, Err, if◌then◌else◌}
+use Rattle.std.specs.Prelude.{ℕ, Bool, ◌||◌, List, [], ◌∷◌, ◌++◌, length, drop, filter, chars, ◌==◌, nat_lt, nat_le, Option, Some, None, Result, Ok, Err, if◌then◌else◌}
 use Rattle.std.specs.Option.{option_and_then, option_map}
 use Rattle.std.specs.Result.{result_ok}
-use Rattle.std.specs.List.{before_first, list_all, list_any, slice_split}
-use Rattle.std.specs.Char.{is_ascii_digit}
+use Rattle.std.specs.List.{before_first, list_any, slice_split}
 use Rattle.chew_spec_syllable.specs.Phrase.{is_phrase}
 use Rattle.chew_spec_syllable.specs.Row.{Row, greatest_freq, is_pair_of}
 use Rattle.chew_spec_syllable.specs.SyllableText.{code_reading}
+use Rattle.chew_spec_text.specs.Digits.{number_up_to}
 use Rattle.chew_spec_text.specs.Lines.{Fault, each_line, lines_of}
 
 -- the most bytes of a dictionary's text, 64 MiB
@@ -55,19 +55,10 @@ fields_in text = filter is_field (slice_split is_separator text)
 abbrev pub fields_of : List ℕ → List (List ℕ)
 fields_of line = fields_in (before_first is_hash line)
 
--- the number that decimal digits write
-abbrev pub digits_value : List ℕ → ℕ
-digits_value digits = fold (λ value digit. value * 10 + (digit - 48)) 0 digits
-
--- digits, one at least
-abbrev pub is_number : List ℕ → Bool
-is_number digits = nat_lt 0 (length digits) && list_all is_ascii_digit digits
-
 -- the frequency that the first of these fields writes
 abbrev pub freq_in : List (List ℕ) → Option ℕ
 freq_in [] = None
-freq_in (digits ∷ _) =
-    if is_number digits && nat_le (digits_value digits) greatest_freq then Some (digits_value digits) else None
+freq_in (digits ∷ _) = number_up_to greatest_freq digits
 
 -- the values of a list, where each element has one
 abbrev pub each_value : {X Y : Type 0} → (X → Option Y) → List X → Option (List Y)

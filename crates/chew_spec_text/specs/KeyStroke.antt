@@ -24,6 +24,8 @@ pub data KeyStroke : Type 0 where
   Add : (cells : ℕ) → KeyStroke
   -- takes it from there
   Forget : (cells : ℕ) → KeyStroke
+  -- hides it, whether the user or the system has it
+  Hide : (cells : ℕ) → KeyStroke
 
 -- a byte from the space to '~'
 abbrev pub is_printable : ℕ → Bool
@@ -34,6 +36,7 @@ abbrev pub is_key_stroke : KeyStroke → Bool
 is_key_stroke (Char byte) = is_printable byte
 is_key_stroke (Add cells) = nat_le 2 cells && nat_le cells 9
 is_key_stroke (Forget cells) = nat_le 1 cells && nat_le cells 9
+is_key_stroke (Hide cells) = nat_le 2 cells && nat_le cells 9
 is_key_stroke _ = true
 
 -- a key, and its name in a script
@@ -56,7 +59,8 @@ key_names =
     ∷ (named (codes "L") Left ∷ (named (codes "R") Right ∷ (named (codes "H") Home ∷ (named (codes "Z") End
     ∷ (named (codes "U") Up ∷ (named (codes "V") Down ∷ (named (codes "P") PageUp ∷ (named (codes "N") PageDown
     ∷ (named (codes "T") Tab ∷ (named (codes "X") Esc ∷ (named (codes "lt") (Char 60) ∷ []))))))))))))) ++
-    (map (named_for (codes "C") Add) (range_with_len 2 8) ++ map (named_for (codes "F") Forget) (range_with_len 1 9))
+    (map (named_for (codes "C") Add) (range_with_len 2 8) ++ (map (named_for (codes "F") Forget) (range_with_len 1 9)
+    ++ map (named_for (codes "K") Hide) (range_with_len 2 8)))
 
 -- the text of a key: itself, or its name between '<' and '>'
 abbrev pub key_text : KeyStroke → List ℕ
@@ -76,6 +80,7 @@ key_text Tab = codes "<T>"
 key_text Esc = codes "<X>"
 key_text (Add cells) = codes "<C" ++ (decimal cells ++ codes ">")
 key_text (Forget cells) = codes "<F" ++ (decimal cells ++ codes ">")
+key_text (Hide cells) = codes "<K" ++ (decimal cells ++ codes ">")
 
 -- the key of a name
 abbrev pub key_named : List ℕ → Option KeyStroke

@@ -1,12 +1,10 @@
-pub mod Command
 pub mod DictionaryText
+pub mod Digits
 pub mod Entry
 pub mod KeyStroke
 pub mod Line
 pub mod Lines
-pub mod Output
 pub mod RowText
-pub mod Run
-pub mod Said
 pub mod Sample
 pub mod Script
+pub mod Statement

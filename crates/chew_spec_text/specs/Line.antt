@@ -6,12 +6,15 @@ pub data Note : Type 0 where
   Quiet : Note
   -- it could not do what it says
   Bell : Note
-  -- what it would have learnt was not, since the user's dictionary is full
+  -- what it would have learnt or hidden was not, since the user's dictionary is full
   Full : Note
   -- it added a phrase
   Added : Note
-  -- it took a phrase away, or there was none
+  -- it took a phrase away
   Forgot : Note
+  -- it hid a phrase
+  Hidden : Note
+  -- there was no phrase to take away, or it was hidden
   Missing : Note
 
 -- what is shown once a key was handled: the pre-edit text, the column of the cursor, what the layout holds,
@@ -31,6 +34,7 @@ note_text Bell = codes "bell"
 note_text Full = codes "full"
 note_text Added = codes "added"
 note_text Forgot = codes "forgot"
+note_text Hidden = codes "hidden"
 note_text Missing = codes "none"
 
 -- the text, and a TAB behind it

@@ -1,4 +1,4 @@
--- What laws speak of: the lines of a small dictionary of five rows, and the words of a run.
+-- What laws speak of: the lines of a small dictionary of five rows.
 use Prim.Native.String.{String}
 use Rattle.std.specs.Prelude.{ℕ, List, [], ◌∷◌, codes, encode_utf8_all}
 
@@ -10,7 +10,3 @@ bytes_of text = encode_utf8_all (codes text)
 abbrev pub five_lines : List (List ℕ)
 five_lines = bytes_of "測 100 ㄘㄜˋ" ∷ (bytes_of "策 200 ㄘㄜˋ" ∷ (bytes_of "是 9000 ㄕˋ" ∷ (bytes_of "試 300 ㄕˋ"
     ∷ (bytes_of "測試 9318 ㄘㄜˋ ㄕˋ" ∷ []))))
-
--- the words of a run
-abbrev pub run_words : List (List ℕ)
-run_words = codes "run" ∷ (codes "s" ∷ (codes "k" ∷ (codes "f" ∷ [])))

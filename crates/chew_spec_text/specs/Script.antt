@@ -1,7 +1,7 @@
 -- The text of a script: the keys of each context, the rounds, and the first fault.
 use Rattle.std.specs.Prelude.{ℕ, zero, suc, ◌+◌, ◌-◌, Bool, not, ◌&&◌, ◌||◌, List, [], ◌∷◌, ◌++◌, length, find, codes, decimal, bytes_eq, nat_eq, ◌==◌, nat_lt, nat_le, sum_by, Option, Some, None, Result, Ok, Err, if◌then◌else◌}
 use Rattle.std.specs.List.{after_first, before_first, list_all, list_any, range_with_len, starts_with}
-use Rattle.chew_spec_text.specs.DictionaryText.{is_number}
+use Rattle.chew_spec_text.specs.Digits.{is_number}
 use Rattle.chew_spec_text.specs.KeyStroke.{KeyStroke, is_printable, keys_in}
 use Rattle.chew_spec_text.specs.Lines.{Fault, each_line, lines_of}
 

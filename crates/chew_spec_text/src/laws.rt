@@ -1,10 +1,9 @@
 //! Laws and known values of the definitions.
 
-mod command;
 mod dictionary_text;
+mod digits;
 mod entry;
 mod keys;
+mod line;
 mod lines;
-mod opening;
-mod output;
 mod script;

@@ -1,9 +1,9 @@
 //! Laws and known values of the text of a dictionary.
 
 ghost use Rattle.std.specs.Prelude.{◌≡◌, ℕ, ◌<◌, ◌≤◌, ◌&&◌, List, [], ◌∷◌, ◌++◌, length, take, filter, ◌==◌, nat_lt, Ok, Err, IsTrue, flat_map, map, codes};
-ghost use Rattle.std.specs.List.{join_with_byte, list_all};
+ghost use Rattle.std.specs.List.{join_with_byte, list_all, list_any};
 ghost use Rattle.chew_spec_dictionary.specs.FiveRows.{ce4, five_rows, row_at_start};
-ghost use Rattle.chew_spec_syllable.specs.Row.{Row, is_row, no_pair_twice};
+ghost use Rattle.chew_spec_syllable.specs.Row.{Row, is_pair_of, is_row, no_pair_twice};
 ghost use Rattle.chew_spec_text.specs.DictionaryText.{RowCause, Size, Phrase, Frequency, Syllable, Lengths, Twice, Rows, dictionary_rows, fields_of};
 ghost use Rattle.chew_spec_text.specs.Line.{with_line_feed};
 ghost use Rattle.chew_spec_text.specs.Lines.{Fault, but_for_line, is_line, lines_of, with_return, without_return};
@@ -24,6 +24,16 @@ pub fn known_rows()
     ensures zeros { dictionary_rows (bytes_of "測 000000000007 ㄘㄜˋ") ≡ Ok (row_at_start (ce4 ∷ []) (bytes_of "測") 7 ∷ []) }
     ensures greatest { dictionary_rows (bytes_of "測 99999999 ㄘㄜˋ") ≡ Ok (row_at_start (ce4 ∷ []) (bytes_of "測") 99_999_999 ∷ []) }
     ensures empty { dictionary_rows [] ≡ Ok [] }
+    ensures hash { dictionary_rows (bytes_of "#\n測 100 ㄘㄜˋ#\n#策") ≡ Ok (row_at_start (ce4 ∷ []) (bytes_of "測") 100 ∷ []) }
+{}
+
+/// Fields are parted by spaces and tabs alone, and what a `#` begins is no field; other white space and control
+/// characters are part of a field.
+pub fn known_fields()
+    ensures parted { fields_of (codes " a \tb\t\tc ") ≡ codes "a" ∷ (codes "b" ∷ (codes "c" ∷ [])) }
+    ensures not_parted { fields_of (97 ∷ (11 ∷ (12 ∷ (13 ∷ (0 ∷ (31 ∷ (33 ∷ (8 ∷ (10 ∷ (0x85 ∷ (0xA0 ∷ (44 ∷ (98 ∷ []))))))))))))) ≡ (97 ∷ (11 ∷ (12 ∷ (13 ∷ (0 ∷ (31 ∷ (33 ∷ (8 ∷ (10 ∷ (0x85 ∷ (0xA0 ∷ (44 ∷ (98 ∷ []))))))))))))) ∷ [] }
+    ensures comment { fields_of (codes "a b#c # d") ≡ codes "a" ∷ (codes "b" ∷ []) }
+    ensures none { fields_of (codes " \t # a") ≡ [] }
 {}
 
 /// A dictionary for each cause that a line can have, but for the limits, and its line; the causes come in their order.
@@ -34,10 +44,14 @@ pub fn known_row_faults()
     ensures too_frequent { dictionary_rows (bytes_of "測 100000000 ㄘㄜˋ") ≡ Err (record { line = 1; cause = Frequency }) }
     ensures syllable { dictionary_rows (bytes_of "\n# x\n測 100 ㄘㄜˋ x") ≡ Err (record { line = 3; cause = Syllable }) }
     ensures lengths { dictionary_rows (bytes_of "測試 100 ㄘㄜˋ") ≡ Err (record { line = 1; cause = Lengths }) }
+    ensures more_syllables { dictionary_rows (bytes_of "測 100 ㄘㄜˋ ㄕˋ") ≡ Err (record { line = 1; cause = Lengths }) }
     ensures no_syllable { dictionary_rows (bytes_of "測 100") ≡ Err (record { line = 1; cause = Lengths }) }
     ensures twice { dictionary_rows (bytes_of "測 100 ㄘㄜˋ\n測 200 ㄘㄜˋ") ≡ Err (record { line = 2; cause = Twice }) }
     ensures frequency_first { dictionary_rows (bytes_of "測 abc x") ≡ Err (record { line = 1; cause = Frequency }) }
     ensures lengths_first { dictionary_rows (bytes_of "測 100 ㄘㄜˋ\n測 100") ≡ Err (record { line = 2; cause = Lengths }) }
+    ensures phrase_first { dictionary_rows (bytes_of "a") ≡ Err (record { line = 1; cause = Phrase }) }
+    ensures syllable_first { dictionary_rows (bytes_of "測 100 x ㄘㄜˋ") ≡ Err (record { line = 1; cause = Syllable }) }
+    ensures fault_first { dictionary_rows (bytes_of "測 1 ㄘㄜˋ\n測 2 ㄘㄜˋ\na") ≡ Err (record { line = 2; cause = Twice }) }
     ensures two_returns { dictionary_rows (with_line_feed (with_return (with_return (bytes_of "測 100 ㄘㄜˋ")))) ≡ Err (record { line = 1; cause = Syllable }) }
 {}
 
@@ -49,11 +63,20 @@ pub fn rows_of_a_text()
 {}
 
 /// At most 250,000 rows with no pair twice, printed a line each, are no longer than 64 MiB and are read as themselves
-/// without their times; the 250,001st is refused.
+/// without their times; the 250,001st is refused, and one whose pair stands in an earlier row for that.
 pub fn printed_rows()
     ensures read { (rows : List Row) → IsTrue (list_all is_row rows) → IsTrue (no_pair_twice rows) → length rows ≤ 250_000 → dictionary_rows (rows_text rows) ≡ Ok (map without_time rows) }
     ensures short { (rows : List Row) → IsTrue (list_all is_row rows) → length rows ≤ 250_000 → length (rows_text rows) ≤ 67_108_864 }
     ensures one_more { (rows : List Row) (row : Row) → IsTrue (list_all is_row (rows ++ row ∷ [])) → IsTrue (no_pair_twice (rows ++ row ∷ [])) → length rows ≡ 250_000 → dictionary_rows (rows_text (rows ++ row ∷ [])) ≡ Err (record { line = 250_001; cause = Rows }) }
+    ensures twice_first { (rows : List Row) (row : Row) → IsTrue (list_all is_row (rows ++ row ∷ [])) → IsTrue (no_pair_twice rows) → IsTrue (list_any (is_pair_of row.key row.phrase) rows) → length rows ≡ 250_000 → dictionary_rows (rows_text (rows ++ row ∷ [])) ≡ Err (record { line = 250_001; cause = Twice }) }
+{}
+
+/// The five rows as they are printed, byte for byte; a row's frequency has no zeros in front, and its time isn't told.
+pub fn known_rows_printed()
+    ensures five { rows_text five_rows ≡ flat_map with_line_feed five_lines }
+    ensures bytes { rows_text (record { key = ce4 ∷ (8708 ∷ []); phrase = bytes_of "測試"; freq = 20; time = 7 } ∷ []) ≡ 0xE6 ∷ (0xB8 ∷ (0xAC ∷ (0xE8 ∷ (0xA9 ∷ (0xA6 ∷ (32 ∷ (50 ∷ (48 ∷ (32 ∷ (0xE3 ∷ (0x84 ∷ (0x98 ∷ (0xE3 ∷ (0x84 ∷ (0x9C ∷ (0xCB ∷ (0x8B ∷ (32 ∷ (0xE3 ∷ (0x84 ∷ (0x95 ∷ (0xCB ∷ (0x8B ∷ (10 ∷ [])))))))))))))))))))))))) }
+    ensures zero { rows_text (row_at_start (ce4 ∷ []) (bytes_of "測") 0 ∷ []) ≡ with_line_feed (bytes_of "測 0 ㄘㄜˋ") }
+    ensures none { rows_text [] ≡ [] }
 {}
 
 /// The size is told exactly where a dictionary is too long, of line 0; else a fault is told of one of its lines, and

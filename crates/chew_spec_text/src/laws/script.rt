@@ -5,7 +5,7 @@ ghost use Rattle.std.specs.List.{count_by, join_with_byte, list_all};
 ghost use Rattle.chew_spec_text.specs.KeyStroke.{KeyStroke, Char, Enter, is_key_stroke, key_text};
 ghost use Rattle.chew_spec_text.specs.Line.{with_line_feed};
 ghost use Rattle.chew_spec_text.specs.Lines.{Fault, but_for_line, is_line, lines_of, with_return, without_return};
-ghost use Rattle.chew_spec_text.specs.Said.{context_of, is_round, keys_for, says_something};
+ghost use Rattle.chew_spec_text.specs.Statement.{context_of, is_round, keys_for, says_something};
 ghost use Rattle.chew_spec_text.specs.Script.{Script, ScriptCause, Size, Byte, Form, Context, Key, Keys, Rounds, keys_count, script_of};
 
 /// Known scripts: one line with keys, with and without its line feed or a carriage return; the empty text; the third
@@ -18,6 +18,9 @@ pub fn known_scripts()
     ensures third { script_of (codes "3:") ≡ Ok (record { contexts = [] ∷ ([] ∷ ([] ∷ [])); rounds = 0 }) }
     ensures joined { script_of (flat_map with_line_feed (codes "2:hk" ∷ (codes "1: " ∷ (codes "2:4" ∷ [])))) ≡ Ok (record { contexts = map Char (codes " ") ∷ (map Char (codes "hk4") ∷ []); rounds = 0 }) }
     ensures rounds { script_of (flat_map with_line_feed (codes "round" ∷ ([] ∷ ((35 ∷ (0x80 ∷ [])) ∷ (codes "round" ∷ []))))) ≡ Ok (record { contexts = []; rounds = 2 }) }
+    ensures hash { script_of (codes "1:#\n#1:h") ≡ Ok (record { contexts = map Char (codes "#") ∷ []; rounds = 0 }) }
+    ensures two_digits { script_of (codes "12:") ≡ Ok (record { contexts = replicate 12 []; rounds = 0 }) }
+    ensures least_and_greatest { script_of (codes "1:" ++ (32 ∷ (126 ∷ []))) ≡ Ok (record { contexts = (Char 32 ∷ (Char 126 ∷ [])) ∷ []; rounds = 0 }) }
     ensures colon { script_of (codes "1:a:b") ≡ Ok (record { contexts = map Char (codes "a:b") ∷ []; rounds = 0 }) }
 {}
 
@@ -25,6 +28,14 @@ pub fn known_scripts()
 pub fn known_script_faults()
     ensures byte { script_of (codes "1:h\n" ++ (codes "17:<Q>" ++ 0x80 ∷ [])) ≡ Err (record { line = 2; cause = Byte }) }
     ensures two_returns { script_of (with_line_feed (with_return (with_return (codes "1:h")))) ≡ Err (record { line = 1; cause = Byte }) }
+    ensures below_space { script_of (codes "1:" ++ 31 ∷ []) ≡ Err (record { line = 1; cause = Byte }) }
+    ensures above_tilde { script_of (codes "1:" ++ 127 ∷ []) ≡ Err (record { line = 1; cause = Byte }) }
+    ensures byte_first { script_of (codes "x\t") ≡ Err (record { line = 1; cause = Byte }) }
+    ensures return_inside { script_of (codes "1:\rh") ≡ Err (record { line = 1; cause = Byte }) }
+    ensures comment_inside { script_of (codes " # x") ≡ Err (record { line = 1; cause = Form }) }
+    ensures other_digits { script_of (codes "1x:h") ≡ Err (record { line = 1; cause = Form }) }
+    ensures other_word { script_of (codes "Round") ≡ Err (record { line = 1; cause = Form }) }
+    ensures too_long_a_number { script_of (codes "160:h") ≡ Err (record { line = 1; cause = Context }) }
     ensures no_colon { script_of (codes "1") ≡ Err (record { line = 1; cause = Form }) }
     ensures no_number { script_of (codes "# x\n:hk4") ≡ Err (record { line = 2; cause = Form }) }
     ensures rounds { script_of (codes "round ") ≡ Err (record { line = 1; cause = Form }) }
@@ -42,10 +53,11 @@ pub fn many_rounds()
 {}
 
 /// At most 65,536 keys of a script, printed behind `1:`, are read as the keys of the first context; the 65,537th is
-/// refused.
+/// refused, but where a `<` behind the keys begins no name that is told first.
 pub fn printed_line_of_keys()
     ensures read { (keys : List KeyStroke) → IsTrue (list_all is_key_stroke keys) → length keys ≤ 65_536 → script_of (codes "1:" ++ flat_map key_text keys) ≡ Ok (record { contexts = keys ∷ []; rounds = 0 }) }
     ensures one_more { (keys : List KeyStroke) → IsTrue (list_all is_key_stroke keys) → length keys ≡ 65_537 → script_of (codes "1:" ++ flat_map key_text keys) ≡ Err (record { line = 1; cause = Keys }) }
+    ensures key_first { (keys : List KeyStroke) → IsTrue (list_all is_key_stroke keys) → length keys ≤ 65_537 → script_of (codes "1:" ++ (flat_map key_text keys ++ codes "<")) ≡ Err (record { line = 1; cause = Key }) }
 {}
 
 /// A script has at most 16 contexts, 65,536 keys and 64 rounds, and each key is one that a script can name.

@@ -1,7 +1,7 @@
 -- What each return says of the syllables.
 use Rattle.std.proofs.Common.{sym, ap, ◌∙◌, Some, length, arith}
 use Rattle.chew_rows.specs.Fields.{codes_of_text}
-use Rattle.chew_rows.specs.Told.{cause_of}
+use Rattle.chew_rows.specs.Faults.{cause_of}
 use Rattle.chew_rows.proofs.Keys.{one_code, no_code, no_codes, one_more, all_codes, key_bad, key_beyond, key_differs, key_is}
 use Rattle.chew_rows.proofs.syllables.read_key.Goals as goal
 

@@ -50,3 +50,19 @@ returns-clause-lengths_first c = refl
 pub returns-clause-two_returns : goal.returns-clause-two_returns
 unfolding dictionary_rows is_phrase is_utf8 chars syllable_reading encode
 returns-clause-two_returns c = refl
+
+pub returns-clause-phrase_first : goal.returns-clause-phrase_first
+unfolding dictionary_rows is_phrase is_utf8 chars syllable_reading encode
+returns-clause-phrase_first c = refl
+
+pub returns-clause-syllable_first : goal.returns-clause-syllable_first
+unfolding dictionary_rows is_phrase is_utf8 chars syllable_reading encode
+returns-clause-syllable_first c = refl
+
+pub returns-clause-fault_first : goal.returns-clause-fault_first
+unfolding dictionary_rows is_phrase is_utf8 chars syllable_reading encode
+returns-clause-fault_first c = refl
+
+pub returns-clause-more_syllables : goal.returns-clause-more_syllables
+unfolding dictionary_rows is_phrase is_utf8 chars syllable_reading encode
+returns-clause-more_syllables c = refl

@@ -47,3 +47,7 @@ returns-clause-greatest c = refl
 pub returns-clause-empty : goal.returns-clause-empty
 unfolding dictionary_rows five_rows is_phrase is_utf8 chars syllable_reading encode
 returns-clause-empty c = refl
+
+pub returns-clause-hash : goal.returns-clause-hash
+unfolding dictionary_rows five_rows is_phrase is_utf8 chars syllable_reading encode
+returns-clause-hash c = refl

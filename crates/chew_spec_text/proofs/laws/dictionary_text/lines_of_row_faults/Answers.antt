@@ -2,7 +2,8 @@
 use Rattle.std.proofs.Common.{leb, length, [], refl}
 use Rattle.chew_spec_text.specs.DictionaryText.{Size, dictionary_rows, system_limit}
 use Rattle.chew_spec_text.proofs.Limited.{refused, whole, sized, at_most, later}
-use Rattle.chew_spec_text.proofs.Rows.{taken, never_size}
+use Rattle.chew_spec_text.proofs.RowFaults.{never_size}
+use Rattle.chew_spec_text.proofs.Rows.{taken}
 use Rattle.chew_spec_text.proofs.laws.dictionary_text.lines_of_row_faults.Goals as goal
 
 pub returns : goal.returns

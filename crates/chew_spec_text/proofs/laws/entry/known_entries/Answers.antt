@@ -28,3 +28,15 @@ returns-clause-install c = refl
 pub returns-clause-one_syllable : goal.returns-clause-one_syllable
 unfolding entry_text digits encode
 returns-clause-one_syllable c = refl
+
+pub returns-clause-learn_new : goal.returns-clause-learn_new
+unfolding entry_text digits encode
+returns-clause-learn_new c = refl
+
+pub returns-clause-no_syllable : goal.returns-clause-no_syllable
+unfolding entry_text digits encode
+returns-clause-no_syllable c = refl
+
+pub returns-clause-hide : goal.returns-clause-hide
+unfolding entry_text digits encode
+returns-clause-hide c = refl

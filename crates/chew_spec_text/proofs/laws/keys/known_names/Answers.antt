@@ -27,3 +27,11 @@ returns-clause-forgetting c = refl
 pub returns-clause-no_names : goal.returns-clause-no_names
 unfolding keys_in digits
 returns-clause-no_names c = refl
+
+pub returns-clause-hiding : goal.returns-clause-hiding
+unfolding keys_in digits
+returns-clause-hiding c = refl
+
+pub returns-clause-other_words : goal.returns-clause-other_words
+unfolding keys_in digits
+returns-clause-other_words c = refl

@@ -4,7 +4,7 @@ use Rattle.chew_spec_text.specs.KeyStroke.{is_key_stroke, keys_in}
 use Rattle.chew_spec_text.proofs.Found.{at_value}
 use Rattle.chew_spec_text.proofs.KeyNames.{keys_printed}
 use Rattle.chew_spec_text.proofs.KeyRange.{keys_range}
-use Rattle.chew_spec_text.proofs.KeyText.{keys_read}
+use Rattle.chew_spec_text.proofs.KeysRead.{keys_read}
 use Rattle.chew_spec_text.proofs.laws.keys.printed_keys.Goals as goal
 
 pub returns : goal.returns

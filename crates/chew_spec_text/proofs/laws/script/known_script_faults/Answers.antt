@@ -44,3 +44,35 @@ returns-clause-key c = refl
 pub returns-clause-open_name : goal.returns-clause-open_name
 unfolding script_of keys_in digits
 returns-clause-open_name c = refl
+
+pub returns-clause-below_space : goal.returns-clause-below_space
+unfolding script_of keys_in digits
+returns-clause-below_space c = refl
+
+pub returns-clause-above_tilde : goal.returns-clause-above_tilde
+unfolding script_of keys_in digits
+returns-clause-above_tilde c = refl
+
+pub returns-clause-byte_first : goal.returns-clause-byte_first
+unfolding script_of keys_in digits
+returns-clause-byte_first c = refl
+
+pub returns-clause-return_inside : goal.returns-clause-return_inside
+unfolding script_of keys_in digits
+returns-clause-return_inside c = refl
+
+pub returns-clause-comment_inside : goal.returns-clause-comment_inside
+unfolding script_of keys_in digits
+returns-clause-comment_inside c = refl
+
+pub returns-clause-other_digits : goal.returns-clause-other_digits
+unfolding script_of keys_in digits
+returns-clause-other_digits c = refl
+
+pub returns-clause-other_word : goal.returns-clause-other_word
+unfolding script_of keys_in digits
+returns-clause-other_word c = refl
+
+pub returns-clause-too_long_a_number : goal.returns-clause-too_long_a_number
+unfolding script_of keys_in digits
+returns-clause-too_long_a_number c = refl

@@ -32,3 +32,15 @@ returns-clause-rounds c = refl
 pub returns-clause-colon : goal.returns-clause-colon
 unfolding script_of keys_in digits
 returns-clause-colon c = refl
+
+pub returns-clause-hash : goal.returns-clause-hash
+unfolding script_of keys_in digits
+returns-clause-hash c = refl
+
+pub returns-clause-two_digits : goal.returns-clause-two_digits
+unfolding script_of keys_in digits
+returns-clause-two_digits c = refl
+
+pub returns-clause-least_and_greatest : goal.returns-clause-least_and_greatest
+unfolding script_of keys_in digits
+returns-clause-least_and_greatest c = refl

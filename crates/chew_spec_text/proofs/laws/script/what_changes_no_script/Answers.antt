@@ -3,7 +3,7 @@ use Rattle.std.proofs.Common.{◌≤◌, length, map, sym, ◌∙◌, arith}
 use Rattle.std.specs.List.{flat_map}
 use Rattle.chew_spec_text.specs.Line.{with_line_feed}
 use Rattle.chew_spec_text.specs.Lines.{with_return}
-use Rattle.chew_spec_text.specs.Said.{says_something}
+use Rattle.chew_spec_text.specs.Statement.{says_something}
 use Rattle.chew_spec_text.specs.Script.{Size, script_limit, script_of}
 use Rattle.chew_spec_text.proofs.Limited.{same_lines, same_counting}
 use Rattle.chew_spec_text.proofs.Lines.{lines_back, returned_back, shorter}

@@ -1,0 +1,5 @@
+/// The most bytes of a dictionary's text, 64 MiB.
+pub const SYSTEM_LIMIT: usize = 67_108_864;
+
+/// The most rows of a dictionary's text.
+pub const ROWS_LIMIT: usize = 250_000;
