@@ -3,8 +3,8 @@ use Rattle.std.specs.Prelude.{ℕ, ◌-◌, List, map, flat_map, length, min}
 use Rattle.std.specs.List.{range_with_len}
 use Rattle.chew_spec_syllable.specs.Row.{Row}
 use Rattle.chew_spec_dictionary.specs.Call.{Hit}
-use Rattle.chew_spec_dictionary.specs.Look.{Interval, codes_at, hit_of}
-use Rattle.chew_spec_phrasing.specs.Combined.{combined, found_rows}
+use Rattle.chew_spec_dictionary.specs.Look.{Interval, codes_at}
+use Rattle.chew_spec_phrasing.specs.Combined.{combined, found_rows, shown_hit}
 
 -- the interval of this start and length
 abbrev pub interval : (start len : ℕ) → Interval
@@ -12,7 +12,7 @@ interval start len = record { start = start; len = len }
 
 -- the combined rows of an interval
 unfoldable pub combined_at : List Row → List ℕ → List Hit → Interval → List Hit
-combined_at system run hits at = map (hit_of at) (combined system (found_rows run hits at) (codes_at run at))
+combined_at system run hits at = map (shown_hit at) (combined system (found_rows run hits at) (codes_at run at))
 
 -- those of the intervals that begin at a place, by their lengths
 abbrev pub combined_from : List Row → List ℕ → List Hit → (start : ℕ) → List Hit

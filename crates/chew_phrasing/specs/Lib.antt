@@ -1,2 +1,6 @@
 pub mod Combine
-pub mod Held
+pub mod Counts
+pub mod Grid
+pub mod Least
+pub mod Merge
+pub mod Table

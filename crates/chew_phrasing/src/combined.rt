@@ -1,14 +1,13 @@
-ghost use Rattle.std.specs.Prelude.{◌≡◌, ◌+◌, ◌<◌, ◌≤◌, ◌++◌, IsTrue, IfOk, OnOk, filter, length, map, chars};
+ghost use Rattle.std.specs.Prelude.{◌≡◌, ◌+◌, ◌<◌, ◌≤◌, ◌++◌, false, IsTrue, IfOk, OnOk, filter, length, map, chars};
 ghost use Rattle.std.specs.List.{list_any};
 ghost use Rattle.std.specs.Str.{bytes_eq};
 ghost use Rattle.chew_spec_syllable.specs.Phrase.{is_phrase};
-ghost use Rattle.chew_spec_dictionary.specs.Look.{hit_of};
 ghost use Rattle.chew_spec_dictionary.specs.System.{rows_of};
-ghost use Rattle.chew_spec_phrasing.specs.Combined.{combined_hits, is_free_of, is_hit_at};
+ghost use Rattle.chew_spec_phrasing.specs.Combined.{as_shown, combined_hits, is_free_of, is_hit_at, is_shown, shown_hit};
 ghost use Rattle.chew_phrasing.specs.Combine.{combined_at, combined_from};
 
-use crate::interval::{Interval, is_hit_at};
-use chew_plain::{Hit, Hits, Lexicon, sort_hits};
+use crate::interval::is_hit_at;
+use chew_plain::{Hit, Hits, Interval, Lexicon, sort_hits};
 use chew_syllable::{NoMemory, Phrase, Run, Syllable};
 use std::alloc::Global;
 use std::cmp::min;
@@ -17,8 +16,8 @@ use std::cmp::min;
 const INTERVAL_LIMIT: usize = 11;
 
 /// The combined rows of every interval of the run, by their starts, then their lengths, as they are shown: the
-/// user's rows, and those of the system whose phrase no row of the user has. `user` is what a look for this run
-/// found.
+/// user's rows that aren't hidden, and those of the system whose phrase no row of the user has. `user` is what a look
+/// for this run found.
 pub fn combine<L: Lexicon>(
     alloc: Global,
     system: &L,
@@ -32,6 +31,22 @@ pub fn combine<L: Lexicon>(
     for start in 0..syllables.len() {
         push_from(&mut hits, system, syllables, user, start)?;
     }
+    Ok(Hits::of(hits))
+}
+
+/// The combined rows of the intervals that begin at one place of the run, by their lengths, as they are shown.
+pub fn combine_at<L: Lexicon>(
+    alloc: Global,
+    system: &L,
+    run: &Run,
+    user: &[Hit],
+    place: u8,
+) -> Result<Hits, NoMemory>
+    requires inside { place < length run.now }
+    ensures { IfOk result (λ hits. hits ≡ combined_from (L.rows system.now) run.now user.now place) }
+{
+    let mut hits = Vec::new(alloc);
+    push_from(&mut hits, system, run.list(), user, usize::from(place))?;
     Ok(Hits::of(hits))
 }
 
@@ -68,16 +83,17 @@ fn push_at<L: Lexicon>(
     ensures { OnOk result (hits.new.items ≡ hits.old.items ++ combined_at (L.rows system.now) run.now user.now at) }
 {
     let alloc = *hits.allocator();
-    let mut own = hits_at(alloc, user, at)?;
-    let mut free = free_hits(alloc, system, &run[at.start..at.start + at.len], &own, at)?;
-    own.append(&mut free)?;
-    sort_hits(&mut own)?;
-    hits.append(&mut own)?;
+    let found = hits_at(alloc, user, at)?;
+    let mut shown = shown_hits(alloc, &found)?;
+    let mut free = free_hits(alloc, system, &run[at.start..at.start + at.len], &found, at)?;
+    shown.append(&mut free)?;
+    sort_hits(&mut shown)?;
+    hits.append(&mut shown)?;
     Ok(())
 }
 
 /// The hits of an interval.
-fn hits_at(alloc: Global, user: &[Hit], at: Interval) -> Result<Vec<Hit>, NoMemory>
+pub(crate) fn hits_at(alloc: Global, user: &[Hit], at: Interval) -> Result<Vec<Hit>, NoMemory>
     ensures { IfOk result (λ found. found.items ≡ filter (is_hit_at at) user.now) }
 {
     let mut found = Vec::new(alloc);
@@ -87,6 +103,42 @@ fn hits_at(alloc: Global, user: &[Hit], at: Interval) -> Result<Vec<Hit>, NoMemo
         }
     }
     Ok(found)
+}
+
+/// Of these hits those that are shown.
+fn shown_hits(alloc: Global, hits: &[Hit]) -> Result<Vec<Hit>, NoMemory>
+    ensures { IfOk result (λ shown. shown.items ≡ map as_shown (filter is_shown hits.now)) }
+{
+    let mut shown = Vec::with_capacity(alloc, hits.len())?;
+    for hit in hits {
+        if is_shown(hit) {
+            shown.push(as_shown(hit))?;
+        }
+    }
+    Ok(shown)
+}
+
+/// Whether the hit is shown: it isn't hidden, or of a single syllable.
+pub(crate) fn is_shown(hit: &Hit) -> bool
+    ensures { result ≡ is_shown hit.now }
+{
+    if !hit.hidden {
+        return true;
+    }
+    hit.len < 2
+}
+
+/// The hit as it is shown.
+pub(crate) fn as_shown(hit: &Hit) -> Hit
+    ensures { result ≡ as_shown hit.now }
+{
+    Hit {
+        start: hit.start,
+        len: hit.len,
+        phrase: hit.phrase.copy(),
+        freq: hit.freq,
+        hidden: false,
+    }
 }
 
 /// The system's rows of an interval whose phrase none of these hits has, as hits.
@@ -100,7 +152,7 @@ fn free_hits<L: Lexicon>(
     requires long { length key.now ≡ at.len }
     requires some { 1 ≤ at.len }
     requires few { at.len ≤ 11 }
-    ensures { IfOk result (λ free. free.items ≡ map (hit_of at) (filter (is_free_of own.now) (rows_of (L.rows system.now) key.now))) }
+    ensures { IfOk result (λ free. free.items ≡ map (shown_hit at) (filter (is_free_of own.now) (rows_of (L.rows system.now) key.now))) }
 {
     let mut free = Vec::new(alloc);
     for i in 0..system.count(key) {
@@ -113,7 +165,7 @@ fn free_hits<L: Lexicon>(
 }
 
 /// Whether some of these hits has the phrase.
-fn is_taken(phrase: &str, own: &[Hit]) -> bool
+pub(crate) fn is_taken(phrase: &str, own: &[Hit]) -> bool
     ensures { result ≡ list_any (λ hit. bytes_eq hit.phrase phrase.now) own.now }
 {
     own.iter().any(|hit| has_phrase(hit, phrase))
@@ -127,18 +179,19 @@ fn has_phrase(hit: &Hit, phrase: &str) -> bool
 }
 
 /// A row's phrase and frequency as a hit of an interval.
-fn as_hit(phrase: &str, freq: u32, at: Interval) -> Hit
+pub(crate) fn as_hit(phrase: &str, freq: u32, at: Interval) -> Hit
     requires phrase { IsTrue (is_phrase phrase.now) }
     requires long { length (chars phrase.now) ≡ at.len }
     requires some { 1 ≤ at.len }
     requires few { at.len ≤ 11 }
     requires freq { freq ≤ 99_999_999 }
-    ensures { result ≡ record { start = at.start; len = at.len; phrase = phrase.now; freq = freq } }
+    ensures { result ≡ record { start = at.start; len = at.len; phrase = phrase.now; freq = freq; hidden = false } }
 {
     Hit {
         start: at.start as u8,
         len: at.len as u8,
         phrase: Phrase::of(phrase),
         freq,
+        hidden: false,
     }
 }

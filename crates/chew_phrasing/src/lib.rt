@@ -3,13 +3,23 @@
 
 mod characters;
 mod combined;
+mod counts;
+mod entry;
+mod first_row;
+mod grid;
 mod interval;
+mod level;
+mod merge;
+mod order;
 mod piece;
+mod ranking;
 mod rules;
+mod run_grid;
 mod scoring;
 mod segment;
+mod table;
 
-pub use combined::combine;
+pub use combined::{combine, combine_at};
 pub use piece::{Choice, Piece};
 pub use scoring::score;
-pub use segment::best;
+pub use segment::{best, best_of_run};

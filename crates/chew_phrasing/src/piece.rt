@@ -1,5 +1,7 @@
 ghost use Rattle.std.specs.Prelude.{◌≡◌};
+ghost use Rattle.chew_spec_phrasing.specs.Usable.{piece_of_choice, piece_of_hit};
 
+use chew_plain::Hit;
 use chew_syllable::Phrase;
 use std::marker::Model;
 
@@ -20,6 +22,30 @@ impl Model for Choice {
     ghost Value = { spec.Choice };
 
     ghost view = { λ choice. record { start = choice.start; phrase = choice.phrase; freq = choice.freq } };
+}
+
+impl Choice {
+    /// The same choice once more. It takes no memory.
+    pub fn copy(&self) -> Choice
+        ensures { result ≡ self.now }
+    {
+        Choice {
+            start: self.start,
+            phrase: self.phrase.copy(),
+            freq: self.freq,
+        }
+    }
+}
+
+impl Default for Choice {
+    /// 一 at the first cell, since some choice has to fill unused places.
+    fn default() -> Self {
+        Choice {
+            start: 0,
+            phrase: Phrase::of("一"),
+            freq: 0,
+        }
+    }
 }
 
 /// A phrase that is shown for the cells of a run from `start` on, one cell a character.
@@ -51,5 +77,27 @@ impl Piece {
             phrase: self.phrase.copy(),
             freq: self.freq,
         }
+    }
+}
+
+/// What a choice shows.
+pub(crate) fn piece_of_choice(choice: &Choice) -> Piece
+    ensures { result ≡ piece_of_choice choice.now }
+{
+    Piece {
+        start: choice.start,
+        phrase: choice.phrase.copy(),
+        freq: choice.freq,
+    }
+}
+
+/// What a row shows.
+pub(crate) fn piece_of_hit(hit: &Hit) -> Piece
+    ensures { result ≡ piece_of_hit hit.now }
+{
+    Piece {
+        start: hit.start,
+        phrase: hit.phrase.copy(),
+        freq: hit.freq,
     }
 }

@@ -1,79 +1,12 @@
-ghost use Rattle.std.specs.Prelude.{◌≡◌, ◌≤◌, ◌+◌, ◌&&◌, nat_lt, true, find, if◌then◌else◌};
-ghost use Rattle.std.specs.Option.{option_copied};
-ghost use Rattle.chew_spec_phrasing.specs.Combined.{is_hit_at};
-ghost use Rattle.chew_spec_phrasing.specs.Usable.{agrees, choice_end, first_row, is_exactly, is_unbroken, keeps_choices, lies_in, meets, piece_at, piece_by_rows};
+ghost use Rattle.std.specs.Prelude.{◌≡◌, ◌≤◌, ◌+◌, ◌&&◌, nat_lt, true, if◌then◌else◌};
+ghost use Rattle.chew_spec_phrasing.specs.Usable.{agrees, choice_end, is_unbroken, keeps_choices, lies_in, meets};
 
 use crate::characters::{after_characters, begins_with};
-use crate::interval::{Interval, is_hit_at};
-use crate::piece::{Choice, Piece};
-use chew_plain::Hit;
-
-/// The most syllables of a piece that isn't a choice.
-const PIECE_LIMIT: usize = 11;
-
-/// What decides which intervals of a run may be pieces: its combined rows, the breaks and the choices.
-#[derive(Drop)]
-pub(crate) struct Rules<'a> {
-    pub(crate) rows: &'a [Hit],
-    pub(crate) breaks: &'a [u8],
-    pub(crate) choices: &'a [Choice],
-}
-
-/// The piece that the interval may be, where it may be one: exactly a choice's cells have its phrase.
-#[tactic(auto, unfolding(chew_spec_phrasing::specs::Usable::piece_at))]
-pub(crate) fn piece_at(rules: &Rules, at: Interval) -> Option<Piece>
-    ensures { result ≡ piece_at rules.now.rows.now rules.now.breaks.now rules.now.choices.now at }
-{
-    match chosen(rules.choices, at) {
-        Some(choice) => Some(Piece {
-            start: choice.start,
-            phrase: choice.phrase.copy(),
-            freq: choice.freq,
-        }),
-        None => piece_by_rows(rules, at),
-    }
-}
-
-/// The choice of exactly the interval.
-fn chosen(choices: &[Choice], at: Interval) -> Option<&Choice>
-    ensures { option_copied result ≡ find (is_exactly at) choices.now }
-{
-    choices.iter().find(|choice| is_exactly(choice, at))
-}
-
-/// The piece of the interval by its rows, which no break may part.
-fn piece_by_rows(rules: &Rules, at: Interval) -> Option<Piece>
-    ensures { result ≡ piece_by_rows rules.now.rows.now rules.now.breaks.now rules.now.choices.now at }
-{
-    if at.len > PIECE_LIMIT || !is_unbroken(rules.breaks, at) {
-        return None;
-    }
-    match first_row(rules.rows, rules.choices, at) {
-        Some(hit) => Some(Piece {
-            start: hit.start,
-            phrase: hit.phrase.copy(),
-            freq: hit.freq,
-        }),
-        None => None,
-    }
-}
-
-/// The first row of the interval that keeps the choices.
-fn first_row<'a>(rows: &'a [Hit], choices: &[Choice], at: Interval) -> Option<&'a Hit>
-    ensures { option_copied result ≡ first_row rows.now choices.now at }
-{
-    rows.iter().find(|hit| is_first_of(hit, choices, at))
-}
-
-/// Whether the row is one of the interval that keeps the choices.
-fn is_first_of(hit: &Hit, choices: &[Choice], at: Interval) -> bool
-    ensures { result ≡ (is_hit_at at hit.now && keeps_choices choices.now at hit.now.phrase) }
-{
-    is_hit_at(hit, at) && keeps_choices(choices, at, hit.phrase.text())
-}
+use crate::piece::Choice;
+use chew_plain::Interval;
 
 /// Whether no break lies strictly inside the interval.
-fn is_unbroken(breaks: &[u8], at: Interval) -> bool
+pub(crate) fn is_unbroken(breaks: &[u8], at: Interval) -> bool
     ensures { result ≡ is_unbroken breaks.now at }
 {
     breaks
@@ -89,7 +22,7 @@ fn is_inside(place: usize, at: Interval) -> bool
 }
 
 /// Whether each choice that meets the interval lies inside it, and the phrase has its characters at its cells.
-fn keeps_choices(choices: &[Choice], at: Interval, phrase: &str) -> bool
+pub(crate) fn keeps_choices(choices: &[Choice], at: Interval, phrase: &str) -> bool
     ensures { result ≡ keeps_choices choices.now at phrase.now }
 {
     choices
@@ -112,13 +45,6 @@ fn choice_end(choice: &Choice) -> usize
     ensures { result ≡ choice_end choice.now }
 {
     usize::from(choice.start) + choice.phrase.characters()
-}
-
-/// Whether the choice has exactly the cells of the interval.
-fn is_exactly(choice: &Choice, at: Interval) -> bool
-    ensures { result ≡ is_exactly at choice.now }
-{
-    usize::from(choice.start) == at.start && choice.phrase.characters() == at.len
 }
 
 /// Whether the choice has a cell of the interval.

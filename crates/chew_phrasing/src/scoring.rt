@@ -64,7 +64,7 @@ fn weights(lengths: &[u8], freqs: &[u32]) -> u64
 }
 
 /// What the frequency of a piece counts: a piece of one syllable has a 512th of it.
-fn weight_of(len: u8, freq: u32) -> u64
+pub(crate) fn weight_of(len: u8, freq: u32) -> u64
     ensures value { result ≡ weight (len, freq) }
     ensures small { result < 2 ^ 32 }
 {

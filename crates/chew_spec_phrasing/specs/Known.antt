@@ -1,6 +1,8 @@
 -- Small runs, their hits and pieces, for known values.
-use Rattle.std.specs.Prelude.{ℕ, zero, suc, List, [], ◌∷◌, ◌++◌}
+use Rattle.std.specs.Prelude.{ℕ, false, zero, suc, List, [], ◌∷◌, ◌++◌}
+use Rattle.chew_spec_syllable.specs.Row.{Row}
 use Rattle.chew_spec_dictionary.specs.Call.{Hit}
+use Rattle.chew_spec_dictionary.specs.Hidden.{hidden_time}
 use Rattle.chew_spec_phrasing.specs.Usable.{Choice, Piece}
 
 -- 測, 策, 是 and 試, in UTF-8
@@ -17,7 +19,7 @@ abbrev pub attempt : List ℕ
 attempt = 0xE8 ∷ 0xA9 ∷ 0xA6 ∷ []
 
 abbrev pub hit : ℕ → ℕ → List ℕ → ℕ → Hit
-hit start len phrase freq = record { start = start; len = len; phrase = phrase; freq = freq }
+hit start len phrase freq = record { start = start; len = len; phrase = phrase; freq = freq; hidden = false }
 
 abbrev pub piece : ℕ → List ℕ → ℕ → Piece
 piece start phrase freq = record { start = start; phrase = phrase; freq = freq }
@@ -50,3 +52,7 @@ abbrev pub five_hits : List Hit
 five_hits =
     hit 0 1 plan 200 ∷ hit 0 1 survey 100 ∷ hit 0 2 (survey ++ attempt) 9318
     ∷ hit 1 1 be 9000 ∷ hit 1 1 attempt 300 ∷ []
+
+-- a row with the time of a hidden one
+abbrev pub hidden_row : List ℕ → List ℕ → ℕ → Row
+hidden_row key phrase freq = record { key = key; phrase = phrase; freq = freq; time = hidden_time }

@@ -1,18 +1,19 @@
 //! Laws and known values of the definitions.
 
-ghost use Rattle.std.specs.Prelude.{◌≡◌, ◌≢◌, ◌↔◌, ◌⊎◌, ◌+◌, ◌++◌, ◌<◌, ◌≤◌, ◌&&◌, ◌||◌, ℕ, [], ◌∷◌, false, flat_map, length, map, sum, true, All, AllPairs, Any, Contains, IsPermutation, IsSorted, List, Option, Some, None};
+ghost use Rattle.std.specs.Prelude.{◌≡◌, ◌≢◌, ◌↔◌, ◌⊎◌, ◌+◌, ◌++◌, ◌<◌, ◌≤◌, ◌&&◌, ◌||◌, ℕ, [], ◌∷◌, false, not, flat_map, length, map, sum, true, All, AllPairs, Any, Contains, IsPermutation, IsSorted, List, Option, Some, None};
 ghost use Rattle.std.specs.Cmp.{IsTotalOrder};
 ghost use Rattle.std.specs.List.{list_any};
 ghost use Rattle.std.specs.declared.cmp.Ordering.TheVariants.{Equal};
 ghost use Rattle.chew_spec_syllable.specs.Row.{Row, no_pair_twice};
 ghost use Rattle.chew_spec_dictionary.specs.Call.{Hit};
 ghost use Rattle.chew_spec_dictionary.specs.FiveRows.{ce4, five_rows, row_at_start, shi4};
-ghost use Rattle.chew_spec_dictionary.specs.Look.{Interval, codes_at, hit_of, hits_of, intervals, shown_cmp};
+ghost use Rattle.chew_spec_dictionary.specs.Hidden.{is_hidden, shown_rows};
+ghost use Rattle.chew_spec_dictionary.specs.Look.{Interval, codes_at, hits_of, intervals, shown_cmp};
 ghost use Rattle.chew_spec_dictionary.specs.System.{has_single, rows_under};
 ghost use Rattle.chew_spec_phrasing.specs.Best.{IsBest, best_of, best_pieces, score_cmp, segmentation_cmp};
 ghost use Rattle.chew_spec_phrasing.specs.CanSegment.{CanSegment, Shows, interval_of};
-ghost use Rattle.chew_spec_phrasing.specs.Combined.{combined, combined_hits, found_rows, has_phrase, is_hit_at, shown_hit_cmp, unsorted_hits};
-ghost use Rattle.chew_spec_phrasing.specs.Known.{attempt, be, be_times, choice, five_hits, four_syllables, piece, plan, survey, three_syllables};
+ghost use Rattle.chew_spec_phrasing.specs.Combined.{combined, combined_hits, found_rows, has_phrase, is_hit_at, shown_hit_cmp, unsorted_hits, shown_hit};
+ghost use Rattle.chew_spec_phrasing.specs.Known.{attempt, be, be_times, choice, five_hits, four_syllables, hidden_row, piece, plan, survey, three_syllables};
 ghost use Rattle.chew_spec_phrasing.specs.Score.{gain, loss};
 ghost use Rattle.chew_spec_phrasing.specs.Search.{HasFirst, Improves, IsCompletion};
 ghost use Rattle.chew_spec_phrasing.specs.Segmentation.{AddsUp, GivesOwn, IsSegmentation, freqs, lengths, lengths_of, pieces_from, segmentations, starts, starts_from};
@@ -134,33 +135,37 @@ pub fn best_is_there()
         → IsBest (piece_at rows breaks choices) n (best_pieces rows breaks choices n) }
 {}
 
-/// The combined rows of a key: the user's, and those of the system whose phrase the user has not for it, in the order in
-/// which they are shown. Where no pair stands twice in the system's rows nor in the user's, each phrase stands once; and
-/// where none does in the user's, a row of the user's phrase is the user's.
+/// The combined rows of a key: the user's that are not hidden, and those of the system whose phrase the user has not for
+/// it, hidden or not, in the order in which they are shown. Where no pair stands twice in the system's rows nor in the
+/// user's, each phrase stands once; and where none does in the user's, a row of the user's phrase is the user's, and the
+/// phrase of a hidden row is shown nowhere.
 pub fn combined_rows_hide()
     ensures sorted { (system user : List Row) (key : List ℕ) → IsSorted shown_cmp (combined system user key) }
     ensures once { (system user : List Row) (key : List ℕ) → no_pair_twice system ≡ true → no_pair_twice user ≡ true
         → AllPairs (λ row other. row.phrase ≢ other.phrase) (combined system user key) }
-    ensures user { (system user : List Row) (key : List ℕ) (row : Row) → Contains user row → row.key ≡ key
+    ensures user { (system user : List Row) (key : List ℕ) (row : Row) → Contains user row → row.key ≡ key → is_hidden row ≡ false
         → Contains (combined system user key) row }
     ensures system { (system user : List Row) (key : List ℕ) (row : Row) → Contains system row → row.key ≡ key
         → has_phrase (rows_under user key) row.phrase ≡ false → Contains (combined system user key) row }
     ensures either { (system user : List Row) (key : List ℕ) (row : Row) → Contains (combined system user key) row
-        → (row.key ≡ key) × (Contains user row ⊎ (Contains system row × (has_phrase (rows_under user key) row.phrase ≡ false))) }
-    ensures hidden { (system user : List Row) (key : List ℕ) (mine row : Row) → no_pair_twice user ≡ true → Contains user mine
+        → (row.key ≡ key) × ((Contains user row × (is_hidden row ≡ false)) ⊎ (Contains system row × (has_phrase (rows_under user key) row.phrase ≡ false))) }
+    ensures own { (system user : List Row) (key : List ℕ) (mine row : Row) → no_pair_twice user ≡ true → Contains user mine
         → mine.key ≡ key → Contains (combined system user key) row → row.phrase ≡ mine.phrase → row ≡ mine }
+    ensures hidden { (system user : List Row) (key : List ℕ) (mine : Row) → no_pair_twice user ≡ true → Contains user mine
+        → mine.key ≡ key → is_hidden mine ≡ true → has_phrase (combined system user key) mine.phrase ≡ false }
     ensures phrases { (system user : List Row) (key phrase : List ℕ)
-        → has_phrase (combined system user key) phrase ≡ (has_phrase (rows_under user key) phrase || has_phrase (rows_under system key) phrase) }
+        → has_phrase (combined system user key) phrase
+        ≡ (has_phrase (shown_rows (rows_under user key)) phrase || (not (has_phrase (rows_under user key) phrase) && has_phrase (rows_under system key) phrase)) }
 {}
 
 /// From what a look-up found come the combined rows of the user's dictionary itself, interval by interval. In any order
-/// and then sorted, the hits of an interval are its combined rows.
+/// and then sorted, the hits of an interval of the run are its combined rows.
 pub fn combined_hits_by_interval()
     ensures same { (system user : List Row) (run : List ℕ)
-        → combined_hits system run (hits_of user run) ≡ flat_map (λ at. map (hit_of at) (combined system user (codes_at run at))) (intervals (length run)) }
+        → combined_hits system run (hits_of user run) ≡ flat_map (λ at. map (shown_hit at) (combined system user (codes_at run at))) (intervals (length run)) }
     ensures sorted { (system : List Row) (run : List ℕ) (user : List Hit) (at : Interval) (hits : List Hit)
-        → IsPermutation (unsorted_hits system run user at) hits → IsSorted shown_hit_cmp hits
-        → hits ≡ map (hit_of at) (combined system (found_rows run user at) (codes_at run at)) }
+        → length (codes_at run at) ≡ at.len → IsPermutation (unsorted_hits system run user at) hits → IsSorted shown_hit_cmp hits
+        → hits ≡ map (shown_hit at) (combined system (found_rows run user at) (codes_at run at)) }
 {}
 
 /// The combined rows of a run can be segmented, where the system has a row for each of its syllables by itself, its rows
@@ -199,8 +204,13 @@ pub fn known_combined_rows()
         ≡ row_at_start (shi4 ∷ []) be 9000 ∷ row_at_start (shi4 ∷ []) attempt 300 ∷ [] }
     ensures ce_shi { combined five_rows [] (ce4 ∷ shi4 ∷ []) ≡ row_at_start (ce4 ∷ shi4 ∷ []) (survey ++ attempt) 9318 ∷ [] }
     ensures hits { combined_hits five_rows (ce4 ∷ shi4 ∷ []) [] ≡ five_hits }
-    ensures hidden { combined five_rows (row_at_start (ce4 ∷ []) plan 7 ∷ []) (ce4 ∷ [])
+    ensures own { combined five_rows (row_at_start (ce4 ∷ []) plan 7 ∷ []) (ce4 ∷ [])
         ≡ row_at_start (ce4 ∷ []) survey 100 ∷ row_at_start (ce4 ∷ []) plan 7 ∷ [] }
+    ensures hidden { combined five_rows (hidden_row (ce4 ∷ shi4 ∷ []) (survey ++ attempt) 9318 ∷ []) (ce4 ∷ shi4 ∷ []) ≡ [] }
+    ensures hidden_beside { combined five_rows (hidden_row (ce4 ∷ shi4 ∷ []) (plan ++ attempt) 1 ∷ []) (ce4 ∷ shi4 ∷ [])
+        ≡ row_at_start (ce4 ∷ shi4 ∷ []) (survey ++ attempt) 9318 ∷ [] }
+    ensures single { combined five_rows (hidden_row (shi4 ∷ []) be 5 ∷ []) (shi4 ∷ [])
+        ≡ row_at_start (shi4 ∷ []) attempt 300 ∷ hidden_row (shi4 ∷ []) be 5 ∷ [] }
     ensures best { best_of five_hits [] [] 2 ≡ Some (piece 0 (survey ++ attempt) 9318 ∷ []) }
 {}
 

@@ -1,22 +1,22 @@
--- What the search holds at the end is the best.
+-- The grid has the pieces of the rules, and the best by it is theirs.
 use Rattle.std.proofs.Common.{length, ap, ◌∙◌}
-use Rattle.chew_phrasing.specs.Held.{pieces_in}
-use Rattle.chew_phrasing.proofs.Searching.{found_best, some_best}
+use Rattle.std.proofs.lemmas.Result.{IfOk-weaker}
+use Rattle.chew_phrasing.proofs.GridPieces.{best_by_rules, rules_give_pieces, rules_possible}
 use Rattle.chew_phrasing.proofs.segment.best.Goals as goal
 
-pub unreachable-requires : goal.unreachable-requires
-unreachable-requires c =
-    let rows = c.args.rows.now in
-    let breaks = c.args.breaks.now in
-    let choices = c.args.choices.now in
-    some_best rows breaks choices _ c.requires.possible
-    (found_best rows breaks choices c.new-before.result.items _ _ (pieces_in c.in_ok-pieces.field-0) c.requires.possible.rows_have_lengths c.new-before.ensures.items (ap (λ l. length l) c.list.ensures.value) c.in_ok-pieces.ensures.best
-    ∙ ap pieces_in c.in-None.is)
+pub best_in-requires-clause-pieces : goal.best_in-requires-clause-pieces
+best_in-requires-clause-pieces c =
+    rules_give_pieces c.args.rows.now c.args.breaks.now c.args.choices.now (length c.args.run.now) c.in_ok-grid.grid c.requires.possible c.in_ok-grid.ensures.short
+    (c.in_ok-grid.ensures.cells ∙ ap (λ l. length l) c.list.ensures.value) c.in_ok-grid.ensures.grid
+
+pub best_in-requires-clause-possible : goal.best_in-requires-clause-possible
+best_in-requires-clause-possible c =
+    rules_possible c.args.rows.now c.args.breaks.now c.args.choices.now (length c.args.run.now) c.in_ok-grid.grid c.requires.possible c.in_ok-grid.ensures.short
+    (c.in_ok-grid.ensures.cells ∙ ap (λ l. length l) c.list.ensures.value) c.in_ok-grid.ensures.grid
 
 pub returns : goal.returns
 returns c =
-    let rows = c.args.rows.now in
-    let breaks = c.args.breaks.now in
-    let choices = c.args.choices.now in
-    found_best rows breaks choices c.new-before.result.items _ _ (pieces_in c.in_ok-pieces.field-0) c.requires.possible.rows_have_lengths c.new-before.ensures.items (ap (λ l. length l) c.list.ensures.value) c.in_ok-pieces.ensures.best
-    ∙ ap pieces_in c.in-Some.is
+    IfOk-weaker c.best_in.result _ _
+    (λ pieces best. best_by_rules c.args.rows.now c.args.breaks.now c.args.choices.now (length c.args.run.now) c.in_ok-grid.grid c.requires.possible c.in_ok-grid.ensures.short
+    (c.in_ok-grid.ensures.cells ∙ ap (λ l. length l) c.list.ensures.value) c.in_ok-grid.ensures.grid pieces.items best)
+    c.best_in.ensures

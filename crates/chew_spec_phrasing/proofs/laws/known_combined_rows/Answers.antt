@@ -31,3 +31,15 @@ returns-clause-hidden c = refl
 pub returns-clause-best : goal.returns-clause-best
 unfolding best_of combined_hits piece_at chars
 returns-clause-best c = refl
+
+pub returns-clause-own : goal.returns-clause-own
+unfolding five_rows encode_utf8
+returns-clause-own c = refl
+
+pub returns-clause-hidden_beside : goal.returns-clause-hidden_beside
+unfolding five_rows encode_utf8
+returns-clause-hidden_beside c = refl
+
+pub returns-clause-single : goal.returns-clause-single
+unfolding five_rows encode_utf8
+returns-clause-single c = refl

@@ -1,6 +1,0 @@
--- The pieces so far, once more.
-use Rattle.std.proofs.Common.{◌≡◌, take}
-use Rattle.chew_phrasing.proofs.segment.copied.Given as goal
-
-abbrev pub invariant-loop-piece : goal.invariant-loop-piece
-invariant-loop-piece l = l.copies.items ≡ take l.piece-index l.pieces
