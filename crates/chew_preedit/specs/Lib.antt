@@ -1,0 +1,2 @@
+pub mod CellItem
+pub mod Splice
