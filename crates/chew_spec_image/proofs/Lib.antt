@@ -1,0 +1,16 @@
+pub mod Bounds
+pub mod BytesBack
+pub mod Counting
+pub mod Families
+pub mod ImageBytes
+pub mod ImageNodes
+pub mod ImageRead
+pub mod ImageRows
+pub mod KeyOrder
+pub mod NodeKeys
+pub mod ReadBack
+pub mod ReadKeys
+pub mod ReadTree
+pub mod Rising
+pub mod SameKeys
+pub mod Unique

@@ -1,0 +1,34 @@
+-- Each value computes.
+use Rattle.std.proofs.Common.{refl}
+use lib.Utf8.{encode}
+use Rattle.std.specs.Str.{chars, is_utf8}
+use Rattle.chew_spec_syllable.specs.Phrase.{is_phrase}
+use Rattle.chew_spec_dictionary.specs.FiveRows.{five_rows}
+use Rattle.chew_spec_image.specs.Fields.{header_bytes, node_at, node_bytes, row_at, row_bytes}
+use Rattle.chew_spec_image.specs.Image.{image}
+use Rattle.chew_spec_image.specs.Reading.{image_reading}
+use Rattle.chew_spec_image.proofs.laws.faults.known_faults_of_codes.Goals as goal
+
+pub returns-clause-root : goal.returns-clause-root
+unfolding image image_reading header_bytes node_bytes row_bytes node_at row_at is_phrase is_utf8 chars encode five_rows
+returns-clause-root c = refl
+
+pub returns-clause-no_child : goal.returns-clause-no_child
+unfolding image image_reading header_bytes node_bytes row_bytes node_at row_at is_phrase is_utf8 chars encode five_rows
+returns-clause-no_child c = refl
+
+pub returns-clause-no_code : goal.returns-clause-no_code
+unfolding image image_reading header_bytes node_bytes row_bytes node_at row_at is_phrase is_utf8 chars encode five_rows
+returns-clause-no_code c = refl
+
+pub returns-clause-below : goal.returns-clause-below
+unfolding image image_reading header_bytes node_bytes row_bytes node_at row_at is_phrase is_utf8 chars encode five_rows
+returns-clause-below c = refl
+
+pub returns-clause-same : goal.returns-clause-same
+unfolding image image_reading header_bytes node_bytes row_bytes node_at row_at is_phrase is_utf8 chars encode five_rows
+returns-clause-same c = refl
+
+pub returns-clause-five : goal.returns-clause-five
+unfolding image image_reading header_bytes node_bytes row_bytes node_at row_at is_phrase is_utf8 chars encode five_rows
+returns-clause-five c = refl

@@ -1,0 +1,4 @@
+pub mod Children
+pub mod Parents
+pub mod Root
+pub mod Steps

@@ -1,0 +1,104 @@
+ghost use Rattle.std.specs.Prelude.{◌≡◌, ◌+◌, ◌*◌, ◌≤◌, ◌<◌, ◌^◌, IfOk, IfErr, OnOk, None, Some, length};
+ghost use Rattle.chew_spec_image.specs.Fields.{header_bytes};
+ghost use Rattle.chew_spec_image.specs.Reading.{counts_fault, image_end, rows_place, text_place};
+
+use crate::fault::ImageFault;
+use crate::fields::ROW_LEN;
+use crate::node::NODE_LEN;
+use std::marker::Model;
+
+/// How many bytes stand before the nodes.
+pub(crate) const HEADER_LEN: usize = 20;
+
+/// The most rows of an image.
+const ROWS_LIMIT: u32 = 250_000;
+
+/// How many rows, nodes and bytes of text an image has.
+#[derive(Clone, Copy, Debug, PartialEq, Eq)]
+pub struct Counts {
+    /// At most 250,000.
+    pub rows: u32,
+    /// The empty prefix and the others.
+    pub nodes: u32,
+    /// The bytes of all phrases.
+    pub text: u32,
+}
+
+impl Model for Counts {
+    ghost use Rattle.chew_spec_image.specs.Fields as spec;
+
+    ghost Value = { spec.Counts };
+
+    ghost view = { λ counts. record { rows = counts.rows; nodes = counts.nodes; text = counts.text } };
+
+    ghost inverse = { λ value. record { rows = value.rows; nodes = value.nodes; text = value.text } };
+}
+
+impl Counts {
+    #[tactic(auto, unfolding(chew_spec_image::specs::Fields::header_bytes))]
+    /// The header's 20 bytes.
+    pub fn bytes(&self) -> [u8; 20]
+        ensures { result ≡ header_bytes self.now }
+    {
+        let rows = self.rows.to_le_bytes();
+        let nodes = self.nodes.to_le_bytes();
+        let text = self.text.to_le_bytes();
+        [
+            b'C', b'H', b'E', b'W', b'T', b'R', b'I', b'1', rows[0], rows[1], rows[2], rows[3],
+            nodes[0], nodes[1], nodes[2], nodes[3], text[0], text[1], text[2], text[3],
+        ]
+    }
+
+    /// Where the rows begin.
+    pub fn rows_place(&self) -> usize
+        ensures { result ≡ rows_place self.now }
+    {
+        HEADER_LEN + NODE_LEN * self.nodes as usize
+    }
+
+    /// Where the text begins.
+    pub fn text_place(&self) -> usize
+        ensures { result ≡ text_place self.now }
+    {
+        HEADER_LEN + NODE_LEN * self.nodes as usize + ROW_LEN * self.rows as usize
+    }
+
+    /// Where the image ends.
+    pub fn image_end(&self) -> usize
+        ensures { result ≡ image_end self.now }
+    {
+        HEADER_LEN
+            + NODE_LEN * self.nodes as usize
+            + ROW_LEN * self.rows as usize
+            + self.text as usize
+    }
+}
+
+/// The first fault of the numbers in a header, for so many bytes.
+pub(crate) fn check_counts(counts: &Counts, len: usize) -> Result<(), ImageFault>
+    ensures ok { IfOk result (λ _. counts_fault counts.now len ≡ None) }
+    ensures whole { OnOk result (len ≡ image_end counts.now) }
+    ensures rows { OnOk result (counts.now.rows ≤ 250_000) }
+    ensures root { OnOk result (1 ≤ counts.now.nodes) }
+    ensures nodes { OnOk result (counts.now.nodes ≤ 11 * counts.now.rows + 1) }
+    ensures text { OnOk result (counts.now.text ≤ 44 * counts.now.rows) }
+    ensures err { IfErr result (λ fault. counts_fault counts.now len ≡ Some fault.place) }
+{
+    if counts.rows > ROWS_LIMIT {
+        return Err(ImageFault { place: 8 });
+    }
+    if counts.nodes == 0 || counts.nodes > 11 * counts.rows + 1 {
+        return Err(ImageFault { place: 12 });
+    }
+    if counts.text > 44 * counts.rows {
+        return Err(ImageFault { place: 16 });
+    }
+    let end = counts.image_end();
+    if len != end {
+        let place = if len < end { len } else { end };
+        return Err(ImageFault {
+            place: place as u64,
+        });
+    }
+    Ok(())
+}

@@ -1,0 +1,19 @@
+//! Images: a dictionary as one list of bytes, checked and read where it lies. No call takes memory.
+#![tactic(auto)]
+
+mod check;
+mod counts;
+mod fault;
+mod fields;
+mod node;
+mod nodes_read;
+mod number;
+mod parts;
+mod rows_read;
+mod walk;
+
+pub use check::check_image;
+pub use counts::Counts;
+pub use fault::ImageFault;
+pub use fields::RowFields;
+pub use node::Node;
