@@ -1,0 +1,9 @@
+pub mod Fitting
+pub mod Printed
+pub mod Readings
+pub mod Advance
+pub mod Chances
+pub mod Stages
+pub mod States
+pub mod Steps
+pub mod Targets

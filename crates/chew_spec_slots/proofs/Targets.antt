@@ -1,0 +1,39 @@
+-- How the lists read that a crash may leave of a target.
+use Rattle.std.specs.Prelude.{◌≡◌, ◌≢◌, ◌⊎◌, ℕ, zero, suc, ◌+◌, ◌-◌, ◌<◌, ◌≤◌, Bool, true, false, ◌&&◌, ◌==◌, nat_le, List, [], ◌∷◌, length, drop, slice_index, cond, refl}
+use Rattle.std.proofs.Common.{arith, eqb, inl, inr, sym, ap, ap₂, ◌∙◌, subst, ⊎_elim}
+use Rattle.std.proofs.lemmas.Bool.{cases_eq}
+use Rattle.std.proofs.lemmas.Bool.Decides.{nat_tests}
+use Rattle.chew_spec_slots.specs.Fits.{IsAnyGate, IsBehindGate}
+use Rattle.chew_spec_slots.specs.Keep.{opened}
+use Rattle.chew_spec_slots.specs.Reading.{SlotReading, Shut, Open, Faulty, as_open, is_open, saved_in, slot_reading}
+use Rattle.chew_spec_slots.specs.Slot.{open_gate}
+
+and-false : (a b : Bool) → b ≡ false → (a && b) ≡ false
+and-false true b is = is
+and-false false b is = refl
+
+apart-test : (m n : ℕ) → m ≢ n → eqb m n ≡ false
+apart-test m n apart = grind (arith, nat_tests)
+
+-- a gate that isn't open makes a shut slot
+pub shut-gate : (list : List ℕ) → slice_index list 0 ≢ open_gate → slot_reading list ≡ Shut
+shut-gate list apart =
+    ap (λ b. cond b (as_open (saved_in list)) Shut)
+    (and-false (nat_le 33 (length list)) (slice_index list 0 == open_gate) (apart-test (slice_index list 0) open_gate apart))
+
+-- and so does a slot without all its fields
+pub shut-short : (list : List ℕ) → length list < 33 → slot_reading list ≡ Shut
+shut-short list short =
+    ap (λ b. cond (b && (slice_index list 0 == open_gate)) (as_open (saved_in list)) Shut) (too_short (length list) short)
+  where
+    too_short : (n : ℕ) → n < 33 → nat_le 33 n ≡ false
+    too_short n h = grind (arith, nat_tests)
+
+-- any gate before the same bytes is shut, or the open one
+pub any-gate : (reads list : List ℕ) → drop 1 list ≡ drop 1 reads → (slot_reading list ≡ Shut) ⊎ (slot_reading list ≡ slot_reading (opened reads))
+any-gate reads [] same = inl refl
+any-gate reads (gate ∷ behind) same =
+    ⊎_elim
+    (λ same_gate. inr (ap₂ (λ g bs. slot_reading (g ∷ bs)) same_gate same))
+    (λ apart. inl (shut-gate (gate ∷ behind) apart))
+    (cases_eq gate open_gate)

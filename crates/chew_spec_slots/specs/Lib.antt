@@ -1,0 +1,6 @@
+pub mod Fits
+pub mod Keep
+pub mod Reading
+pub mod Recovery
+pub mod Slot
+pub mod Steps
