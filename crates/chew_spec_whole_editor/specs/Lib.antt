@@ -1,0 +1,16 @@
+pub mod Answers
+pub mod Alone
+pub mod Committed
+pub mod Completion
+pub mod Editor
+pub mod Finish
+pub mod Invariant
+pub mod Keys
+pub mod Learnt
+pub mod Pending
+pub mod Phrasings
+pub mod Press
+pub mod Rung
+pub mod Sample
+pub mod Settings
+pub mod Talk
