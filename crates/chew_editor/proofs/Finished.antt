@@ -1,10 +1,11 @@
 -- What replies make of a pending editor.
-use Rattle.std.specs.Prelude.{◌≡◌, ℕ, List, [], length, Some}
-use Rattle.std.proofs.Common.{refl, ap, subst, ◌∙◌}
+use Rattle.std.specs.Prelude.{◌≡◌, ℕ, List, [], length, Some, unwrap_or}
+use Rattle.std.proofs.Common.{refl, ap, sym, subst, ◌∙◌}
 use Rattle.chew_spec_syllable.specs.Row.{Row}
 use Rattle.chew_spec_layout.specs.Layout.{Layout}
 use Rattle.chew_spec_dictionary.specs.Call.{Call, Hit, Reply}
 use Rattle.chew_spec_phrasing.specs.Best.{best_of, best_pieces}
+use Rattle.chew_spec_phrasing.specs.CanSegment.{CanSegment}
 use Rattle.chew_spec_phrasing.specs.Combined.{combined_hits}
 use Rattle.chew_spec_phrasing.specs.Usable.{Piece}
 use Rattle.chew_spec_text.specs.Line.{Line, Quiet}
@@ -12,6 +13,7 @@ use Rattle.chew_spec_editor.specs.Editor.{Settings, Editor, line_of}
 use Rattle.chew_spec_editor.specs.Finish.{finish, rows_in}
 use Rattle.chew_spec_editor.specs.Press.{ConfiguredPending}
 use Rattle.chew_spec_editor.specs.Sound.{AreProper}
+use Rattle.chew_spec_phrasing.proofs.CanSegment.{best_of-from_CanSegment}
 use Rattle.chew_spec_editor.proofs.Sound.{best-covers}
 use Rattle.chew_editor.specs.Kept.{CoverCells}
 use Rattle.chew_editor.specs.Shown.{line_at_end}
@@ -23,6 +25,13 @@ pub CoverCells-best_of : (cells run : List ℕ) (rows : List Hit) (pieces : List
 CoverCells-best_of cells run rows pieces proper same best =
     let covers = best-covers rows (length run) pieces proper best in
     record { whole = covers.0 ∙ ap length same; phrases = covers.1 }
+
+pub CoverCells-best_pieces : (cells run : List ℕ) (rows : List Hit) (pieces : List Piece) → AreProper rows → CanSegment rows [] (length run) → run ≡ cells
+    → pieces ≡ best_pieces rows [] [] (length run) → CoverCells (length cells) pieces
+CoverCells-best_pieces cells run rows pieces proper possible same best =
+    let there = best_of-from_CanSegment rows [] [] (length run) possible in
+    let is : pieces ≡ there.0 = best ∙ ap (λ held. unwrap_or held []) there.1 in
+    CoverCells-best_of cells run rows pieces proper same (there.1 ∙ ap Some (sym is))
 
 -- the editor then
 pub finish-editor : (system : List Row) (whole : ConfiguredPending) (replies : List Reply) (settings : Settings) (layout : Layout) (cells : List ℕ) (before pieces : List Piece) (calls : List Call) (hits : List Hit)

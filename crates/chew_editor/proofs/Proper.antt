@@ -5,10 +5,10 @@ use Rattle.std.proofs.Common.{eqb-true}
 use Rattle.std.proofs.lemmas.Bool.{and_parts}
 use Rattle.std.proofs.lemmas.List.Elements.{All-cons, All-nil}
 use Rattle.chew_spec_syllable.specs.Phrase.{is_phrase}
-use Rattle.chew_spec_syllable.specs.Row.{greatest_freq}
+use Rattle.chew_spec_syllable.specs.Row.{Row, greatest_freq, is_row}
 use Rattle.chew_spec_dictionary.specs.Call.{Hit, is_hit}
 use Rattle.chew_spec_phrasing.specs.Usable.{phrase_len}
-use Rattle.chew_spec_editor.specs.Sound.{AreProper}
+use Rattle.chew_spec_editor.specs.Sound.{AreProper, AreRows}
 
 -- what a hit is
 hit-parts : (hit : Hit) → is_hit hit ≡ true → (is_phrase hit.phrase ≡ true) × (phrase_len hit.phrase ≡ hit.len)
@@ -28,3 +28,10 @@ AreProper-from_is_hit (hit ∷ hits) h =
       lengths = All-cons (λ x. phrase_len x.phrase ≡ x.len) hit hits parts.1 rest.lengths;
       phrases = All-cons (λ x. is_phrase x.phrase ≡ true) hit hits parts.0 rest.phrases;
     }
+
+-- rows are rows
+pub AreRows-from_is_row : (rows : List Row) → list_all is_row rows ≡ true → AreRows rows
+AreRows-from_is_row [] h = record { each = All-nil (λ row. is_row row ≡ true) }
+AreRows-from_is_row (row ∷ rows) h =
+    let both = and_parts (is_row row) (list_all is_row rows) h in
+    record { each = All-cons (λ x. is_row x ≡ true) row rows both.0 (AreRows-from_is_row rows both.1).each }

@@ -1,4 +1,7 @@
-ghost use Rattle.std.specs.Prelude.{◌≡◌, ◌<◌, ◌≤◌, [], All, IfOk, length, map, true};
+ghost use Rattle.std.specs.Prelude.{◌≡◌, ◌<◌, ◌≤◌, [], All, IfOk, IsTrue, length, map, true};
+ghost use Rattle.std.specs.List.{list_all};
+ghost use Rattle.chew_spec_syllable.specs.Row.{is_row};
+ghost use Rattle.chew_spec_dictionary.specs.Call.{is_hit};
 ghost use Rattle.chew_spec_dictionary.specs.System.{has_single};
 ghost use Rattle.chew_spec_editor.specs.Finish.{finish, rows_in};
 ghost use Rattle.chew_spec_phrasing.specs.Best.{best_pieces};
@@ -9,7 +12,7 @@ ghost use Rattle.chew_editor.specs.Kept.{CoverCells, most_cells};
 use crate::editor::Editor;
 use crate::pending::Pending;
 use crate::shown::line_at_end;
-use chew_phrasing::{Piece, best, combine};
+use chew_phrasing::{Piece, best_of_run};
 use chew_plain::{Hit, Lexicon, Reply};
 use chew_script::{Line, Note, Text};
 use chew_syllable::{NoMemory, Run, Syllable};
@@ -52,12 +55,20 @@ pub fn finish<L: Lexicon>(
 
 /// The rows that the reply to the look-up of the run gives.
 fn hits_in(replies: &[Reply]) -> &[Hit]
-    ensures { result.now ≡ rows_in (map reply_of replies.now) }
+    ensures value { result.now ≡ rows_in (map reply_of replies.now) }
+    ensures valid { IsTrue (list_all is_hit result.now) }
 {
     match replies {
         [Reply::Rows(hits), ..] => hits.list(),
-        [] => &[],
+        _ => &[],
     }
+}
+
+/// What every lexicon keeps: its rows are rows. It does nothing, and is there for proofs alone.
+fn all_are_rows<L: Lexicon>(system: &L)
+    ensures { IsTrue (list_all is_row (L.rows system.now)) }
+{
+    let _none = system.count(&[]);
 }
 
 /// The best pieces of the cells.
@@ -70,14 +81,13 @@ fn phrased<L: Lexicon>(
     requires singles { All (λ code. has_single (L.rows system.now) code ≡ true) cells.now }
     requires some { 0 < length cells.now }
     requires short { length cells.now ≤ most_cells }
+    requires valid { IsTrue (list_all is_hit hits.now) }
     ensures best { IfOk result (λ pieces. pieces.items ≡ best_pieces (combined_hits (L.rows system.now) cells.now hits.now) [] [] (length cells.now)) }
     ensures cover { IfOk result (λ pieces. CoverCells (length cells.now) pieces.items) }
 {
+    all_are_rows(system);
     match Run::of(cells) {
-        Some(run) => {
-            let rows = combine(alloc, system, &run, hits)?;
-            best(alloc, &run, rows.list(), &[], &[])
-        }
+        Some(run) => best_of_run(alloc, system, &run, hits, &[], &[]),
         None => unreachable!(),
     }
 }

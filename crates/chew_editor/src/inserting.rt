@@ -1,5 +1,7 @@
-ghost use Rattle.std.specs.Prelude.{◌≡◌, ◌<◌, ◌≤◌, ◌++◌, ◌∷◌, [], IfOk, IfErr, length, map};
+ghost use Rattle.std.specs.Prelude.{◌≡◌, ◌<◌, ◌≤◌, ◌++◌, ◌∷◌, [], IfOk, IfErr, IsTrue, length, map};
+ghost use Rattle.std.specs.List.{list_all};
 ghost use Rattle.chew_spec_dictionary.specs.Call as dictionary;
+ghost use Rattle.chew_spec_dictionary.specs.History.{is_user_call};
 ghost use Rattle.chew_spec_editor.specs.Press.{inserted, take_whole};
 ghost use Rattle.chew_spec_editor.specs.Press as spec;
 ghost use Rattle.chew_layouts.specs.Layouts.{layout_of};
@@ -79,7 +81,8 @@ fn with_last(cells: &ArrayVec<Syllable, 39>, syllable: Syllable) -> ArrayVec<Syl
 /// The one look-up of all cells.
 fn look_up(alloc: Global, cells: &[Syllable]) -> Result<Vec<Call>, NoMemory>
     requires { length cells.now ≤ 39 }
-    ensures { IfOk result (λ calls. map call_of calls.items ≡ dictionary.Look cells.now ∷ []) }
+    ensures value { IfOk result (λ calls. map call_of calls.items ≡ dictionary.Look cells.now ∷ []) }
+    ensures proper { IfOk result (λ calls. IsTrue (list_all is_user_call (map call_of calls.items))) }
 {
     match Run::of(cells) {
         Some(run) => Ok(vec![in alloc; Call::Look(run)]?),

@@ -1,4 +1,6 @@
-ghost use Rattle.std.specs.Prelude.{◌≡◌, map};
+ghost use Rattle.std.specs.Prelude.{◌≡◌, IsTrue, map};
+ghost use Rattle.std.specs.List.{list_all};
+ghost use Rattle.chew_spec_dictionary.specs.History.{is_user_call};
 ghost use Rattle.chew_plain.specs.Call.{call_of};
 
 use crate::settings::Settings;
@@ -20,7 +22,9 @@ pub struct Pending {
 }
 
 impl Model for Pending {
-    ghost use Rattle.std.specs.Prelude.{◌≤◌, ◌<◌, length, map};
+    ghost use Rattle.std.specs.Prelude.{◌≤◌, ◌<◌, IsTrue, length, map};
+    ghost use Rattle.std.specs.List.{list_all};
+    ghost use Rattle.chew_spec_dictionary.specs.History.{is_user_call};
     ghost use Rattle.chew_spec_editor.specs.Press.{ConfiguredPending};
     ghost use Rattle.chew_layouts.specs.Layouts.{layout_of};
     ghost use Rattle.chew_plain.specs.Call.{call_of};
@@ -36,13 +40,14 @@ impl Model for Pending {
       };
     } };
 
-    ghost invariant = { λ p. (0 < length p.cells.items) × (length p.cells.items ≤ p.settings.buffer) × (length p.cells.items ≤ most_cells) };
+    ghost invariant = { λ p. (0 < length p.cells.items) × (length p.cells.items ≤ p.settings.buffer) × (length p.cells.items ≤ most_cells) × IsTrue (list_all is_user_call (map call_of p.calls.items)) };
 }
 
 impl Pending {
     /// The calls, in the order in which they are to be made.
     pub fn calls(&self) -> &[Call]
-        ensures { map call_of result.now ≡ self.now.pending.calls }
+        ensures value { map call_of result.now ≡ self.now.pending.calls }
+        ensures proper { IsTrue (list_all is_user_call (map call_of result.now)) }
     {
         self.calls.as_slice()
     }

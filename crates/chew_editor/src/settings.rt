@@ -10,7 +10,7 @@ use std::marker::Model;
 pub struct Settings {
     /// The layout that reads the keys.
     pub layout: Kind,
-    /// The most cells that the pre-edit buffer holds, 1 to 10.
+    /// The most cells that the pre-edit buffer holds, 1 to 39.
     pub buffer: u8,
 }
 

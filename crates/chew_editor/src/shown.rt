@@ -24,13 +24,13 @@ pub(crate) fn shown_text(alloc: Global, pieces: &[Piece]) -> Result<String, NoMe
 
 /// The columns that a short text takes.
 fn column_of(text: &str) -> u32
-    requires { length text.now ≤ 40 }
+    requires { length text.now ≤ 156 }
     ensures { result ≡ str_width false (chars text.now) }
 {
     text.width() as u32
 }
 
-/// The line that shows pieces of no more than 40 bytes and the layout, with the cursor behind the pieces.
+/// The line that shows pieces of no more than 156 bytes, four a cell, and the layout, with the cursor behind the pieces.
 pub(crate) fn line_at_end(
     alloc: Global,
     layout: &Layout,
@@ -38,7 +38,7 @@ pub(crate) fn line_at_end(
     commit: Text,
     note: Note,
 ) -> Result<Line, NoMemory>
-    requires { length (text_of_pieces pieces.now) ≤ 40 }
+    requires { length (text_of_pieces pieces.now) ≤ 156 }
     ensures { IfOk result (λ line. line ≡ line_at_end (layout_of layout.now) pieces.now commit (note_of note)) }
 {
     let preedit = shown_text(alloc, pieces)?;

@@ -6,7 +6,7 @@ use Rattle.chew_spec_syllable.specs.Syllable.{Parts}
 use Rattle.chew_spec_layout.specs.Layout.{Kind, Standard, Eten, Hsu, Et26, Pinyin, Layout, ByParts, ByLetters, BySpelling, cleared, feed, holds, is_layout, new_layout}
 use Rattle.chew_spec_layout.specs.Letters.{Letters, letter_columns, fed_letters}
 use Rattle.chew_spec_layout.specs.Letters as letter
-use Rattle.chew_spec_layout.specs.Spelling.{fed_spelling}
+use Rattle.chew_spec_layout.specs.Pinyin.{fed_spelling}
 use Rattle.chew_spec_layout.specs.Step.{Step, Kept, Whole, Refused, Erased, NotMine}
 use Rattle.chew_spec_layout.specs.Table.{Table, backspace, columns_of, fed, holds_something, nothing_held}
 use Rattle.chew_spec_layout.specs.Table as table

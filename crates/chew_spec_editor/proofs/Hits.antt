@@ -15,9 +15,10 @@ use Rattle.chew_spec_dictionary.specs.Call.{Hit}
 use Rattle.chew_spec_dictionary.specs.Look.{Interval, codes_at, hit_of, hits_of, intervals, shown_cmp}
 use Rattle.chew_spec_dictionary.specs.Order.{in_order}
 use Rattle.chew_spec_dictionary.specs.System.{has_single, is_under, rows_under}
-use Rattle.chew_spec_phrasing.specs.Combined.{combined, combined_hits, found_rows, has_phrase, is_hit_at}
+use Rattle.chew_spec_phrasing.specs.Combined.{combined, combined_hits, found_rows, has_phrase, is_hit_at, row_of_hit, shown_hit}
 use Rattle.chew_spec_phrasing.specs.CanSegment.{CanSegment, cell_at, interval_of}
 use Rattle.chew_spec_phrasing.specs.Usable.{choice_end, meets, phrase_len}
+use Rattle.chew_spec_dictionary.proofs.Hiding.{single_shown}
 use Rattle.chew_spec_phrasing.proofs.Combined.{Contains-combined-cases, Contains-combined-system, Contains-combined-user, Contains-from_rows_under, same_from_bytes_eq}
 use Rattle.chew_spec_phrasing.proofs.InOrder.{AllPairs-nil, Contains-from_in_order}
 use Rattle.chew_spec_phrasing.proofs.Membership.{All-from_Contains, Contains-flat_map, Contains-from_filter, Contains-from_flat_map, Contains-from_map, Contains-map}
@@ -48,7 +49,7 @@ system-row system run at row rows within h e =
 -- a row that a look-up found for the interval
 found-row : (run : List ℕ) (hits : List Hit) (at : Interval) (row : Row) → AreProper hits → Contains (found_rows run hits at) row → IsFor at row.phrase
 found-row run hits at row proper h =
-    let from = Contains-from_map (λ hit. record { key = codes_at run at; phrase = hit.phrase; freq = hit.freq; time = 0 }) (filter (is_hit_at at) hits) row h in
+    let from = Contains-from_map (row_of_hit (codes_at run at)) (filter (is_hit_at at) hits) row h in
     let kept = Contains-from_filter (is_hit_at at) hits from.0 from.1 in
     let places = and_parts (from.0.start == at.start) (from.0.len == at.len) kept.1 in
     subst (λ (r : Row). IsFor at r.phrase) from.2 (record {
@@ -60,15 +61,15 @@ combined-row : (system : List Row) (run : List ℕ) (hits : List Hit) (at : Inte
     → Contains (combined system (found_rows run hits at) (codes_at run at)) row → IsFor at row.phrase
 combined-row system run hits at row rows proper within h =
     let cases = Contains-combined-cases system (found_rows run hits at) (codes_at run at) row h in
-    ⊎_elim (λ mine. found-row run hits at row proper mine) (λ theirs. system-row system run at row rows within theirs.0 cases.0) cases.1
+    ⊎_elim (λ mine. found-row run hits at row proper mine.0) (λ theirs. system-row system run at row rows within theirs.0 cases.0) cases.1
 
 -- what every combined row of the run is
 combined-hit : (system : List Row) (run : List ℕ) (hits : List Hit) (hit : Hit) → AreRows system → AreProper hits
     → Contains (combined_hits system run hits) hit → IsFor (record { start = hit.start; len = hit.len }) hit.phrase
 unfolding combined_hits
 combined-hit system run hits hit rows proper h =
-    let at = Contains-from_flat_map (λ at. map (hit_of at) (combined system (found_rows run hits at) (codes_at run at))) (intervals (length run)) hit h in
-    let row = Contains-from_map (hit_of at.0) (combined system (found_rows run hits at.0) (codes_at run at.0)) hit at.2 in
+    let at = Contains-from_flat_map (λ at. map (shown_hit at) (combined system (found_rows run hits at) (codes_at run at))) (intervals (length run)) hit h in
+    let row = Contains-from_map (shown_hit at.0) (combined system (found_rows run hits at.0) (codes_at run at.0)) hit at.2 in
     let found = combined-row system run hits at.0 row.0 rows proper (IsInterval-from_intervals (length run) at.0 at.1) row.1 in
     subst (λ (x : Hit). IsFor (record { start = x.start; len = x.len }) x.phrase) row.2 (record { is = found.is; long = found.long })
 
@@ -82,9 +83,9 @@ AreProper-combined_hits system run hits rows proper = record {
 some_row : (p : Row → Bool) (rows : List Row) → list_any p rows ≡ true → (row : Row) × Contains rows row × (p row ≡ true)
 some_row p rows h = let any = Any-from_list_any p rows h in (any.1, (any.0, any.2, any.3), any.4)
 
--- a key for which the system has a row has a combined one
-some-combined : (system user : List Row) (key : List ℕ) → list_any (is_under key) system ≡ true → (row : Row) × Contains (combined system user key) row
-some-combined system user key h = by_hidden (has_phrase (rows_under user key) row.0.phrase) refl
+-- a key of one syllable for which the system has a row has a combined one
+some-combined : (system user : List Row) (key : List ℕ) → length key < 2 → list_any (is_under key) system ≡ true → (row : Row) × Contains (combined system user key) row
+some-combined system user key single h = by_hidden (has_phrase (rows_under user key) row.0.phrase) refl
   where
     row : (row : Row) × Contains system row × (is_under key row ≡ true)
     row = some_row (is_under key) system h
@@ -93,7 +94,7 @@ some-combined system user key h = by_hidden (has_phrase (rows_under user key) ro
     by_hidden true e =
         let mine = some_row (λ r. bytes_eq r.phrase row.0.phrase) (rows_under user key) e in
         let of_user = Contains-from_rows_under user key mine.0 mine.1 in
-        (mine.0, Contains-combined-user system user key mine.0 of_user.0 of_user.1)
+        (mine.0, Contains-combined-user system user key mine.0 of_user.0 of_user.1 (single_shown mine.0 (subst (λ k. length k < 2) (sym of_user.1) single)))
     by_hidden false e = (row.0, Contains-combined-system system user key row.0 row.1 (same_from_bytes_eq row.0.key key row.2) e)
 
 -- the one code of a cell
@@ -108,12 +109,12 @@ single-combined_hits system run hits cell singles h =
     let code = get_or run cell 0 in
     let single = All-contains (λ c. has_single system c ≡ true) run code singles (cell, h, get_or_default run cell code 0 h) in
     let under : list_any (is_under (codes_at run (cell_at cell))) system ≡ true = subst (λ key. list_any (is_under key) system ≡ true) (sym (codes_at-cell run cell h)) single in
-    let row = some-combined system (found_rows run hits (cell_at cell)) (codes_at run (cell_at cell)) under in
-    let hit = Contains-map (hit_of (cell_at cell)) (combined system (found_rows run hits (cell_at cell)) (codes_at run (cell_at cell))) row.0 row.1 in
+    let row = some-combined system (found_rows run hits (cell_at cell)) (codes_at run (cell_at cell)) (let e = ap (λ k. length k) (codes_at-cell run cell h) in omega arith) under in
+    let hit = Contains-map (shown_hit (cell_at cell)) (combined system (found_rows run hits (cell_at cell)) (codes_at run (cell_at cell))) row.0 row.1 in
     let at = Contains-intervals (length run) (cell_at cell) (record { from_one = omega arith; up_to = omega arith; within = omega arith }) in
-    let among = Contains-flat_map (λ at. map (hit_of at) (combined system (found_rows run hits at) (codes_at run at))) (intervals (length run)) (cell_at cell) (hit_of (cell_at cell) row.0) at hit in
+    let among = Contains-flat_map (λ at. map (shown_hit at) (combined system (found_rows run hits at) (codes_at run at))) (intervals (length run)) (cell_at cell) (shown_hit (cell_at cell) row.0) at hit in
     list_any-from_Any (is_hit_at (cell_at cell)) (combined_hits system run hits)
-    (among.0, hit_of (cell_at cell) row.0, among.1, among.2, and_from (cell == cell) (1 == 1) (eq-eqb cell cell refl) refl)
+    (among.0, shown_hit (cell_at cell) row.0, among.1, among.2, and_from (cell == cell) (1 == 1) (eq-eqb cell cell refl) refl)
 
 -- so the run has a segmentation
 pub CanSegment-proper : (system : List Row) (run : List ℕ) (hits : List Hit) → AreProper (combined_hits system run hits)

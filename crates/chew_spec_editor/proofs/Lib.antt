@@ -1,8 +1,8 @@
+pub mod Asked
 pub mod Characters
 pub mod Feeding
 pub mod Hits
 pub mod Intervals
-pub mod Journal
 pub mod Keys
 pub mod Placed
 pub mod Sound

@@ -1,21 +1,28 @@
 -- Where a key leaves the cells, the cursor and what the layout holds.
-use Rattle.std.specs.Prelude.{◌≡◌, ℕ, ◌<◌, Bool, true, false, cond, List, [], ◌∷◌, ◌++◌, length, All, ◌==◌}
+use Rattle.std.specs.Prelude.{◌≡◌, ℕ, ◌<◌, ◌≤◌, Bool, true, false, cond, List, [], ◌∷◌, ◌++◌, length, All, ◌==◌, Option}
+use Rattle.std.specs.Ordering.{is_lt}
 use Rattle.std.proofs.Common.{refl, ap, ap₂, ◌∙◌, sym, subst, arith, length-append}
 use Rattle.std.proofs.lemmas.Bool.Decides.{nat_tests}
 use Rattle.std.proofs.lemmas.List.{drop_all, take_all}
-use Rattle.std.proofs.lemmas.List.Elements.{All-append, All-cons, All-nil}
+use Rattle.std.proofs.lemmas.List.Elements.{All-append, All-cons, All-head, All-nil}
 use Rattle.chew_spec_syllable.specs.Phrase.{is_phrase}
 use Rattle.chew_spec_syllable.specs.Row.{Row}
 use Rattle.chew_spec_layout.specs.Step.{Step, Kept, Whole, Refused, Erased, NotMine}
 use Rattle.chew_spec_layout.specs.Layout.{Layout, cleared, feed, holds, is_layout, new_layout}
 use Rattle.chew_spec_layout.specs.Table.{backspace}
 use Rattle.chew_spec_dictionary.specs.Call.{Look}
+use Rattle.chew_spec_dictionary.specs.Look.{Interval}
 use Rattle.chew_spec_dictionary.specs.System.{has_single}
+use Rattle.chew_spec_phrasing.specs.Best.{IsBest, segmentation_cmp}
+use Rattle.chew_spec_phrasing.specs.Combined.{combined_hits}
+use Rattle.chew_spec_phrasing.specs.Segmentation.{AddsUp, lengths}
+use Rattle.chew_spec_phrasing.specs.Usable.{Piece, phrase_len, piece_at}
 use Rattle.chew_spec_text.specs.KeyStroke.{KeyStroke, Char, Enter, Backspace, Esc}
 use Rattle.chew_spec_text.specs.Line.{Line, Quiet}
 use Rattle.chew_spec_editor.specs.Editor.{Settings, Editor, empty_editor, line_of, shown_text}
 use Rattle.chew_spec_editor.specs.Press.{Pending, Done, Ask, after_step, bell, emptied, inserted, press, press_enter, press_esc, quiet}
 use Rattle.chew_spec_editor.specs.Sound.{IsPlaced, IsSound}
+use Rattle.chew_spec_phrasing.proofs.Lengths.{sum-cons}
 use Rattle.chew_spec_layout.proofs.AnyLayout.{cleared-empty, feed-in_range, new-in_range}
 use Rattle.chew_spec_editor.proofs.Feeding.{cleared-feed, cleared-cleared, cleared-in_range}
 
@@ -28,7 +35,13 @@ IsPlaced-layout system settings editor layout h placed =
 IsSound-layout : (system : List Row) (settings : Settings) (editor : Editor) (layout : Layout)
     → is_layout layout ≡ true → IsSound system settings editor → IsSound system settings (record editor { layout = layout })
 IsSound-layout system settings editor layout h sound =
-    record { placed = IsPlaced-layout system settings editor layout h sound.placed; whole = sound.whole; phrases = sound.phrases }
+    record {
+      placed = IsPlaced-layout system settings editor layout h sound.placed;
+      whole = sound.whole;
+      phrases = sound.phrases;
+      user = sound.user;
+      best = sound.best;
+    }
 
 -- with the cursor behind the cells a syllable is inserted behind them
 pub inserted-end : (editor : Editor) (code : ℕ) → editor.cursor ≡ length editor.cells → (inserted editor code).cells ≡ editor.cells ++ (code ∷ [])
@@ -80,12 +93,27 @@ step-asked system settings editor Refused pending h = absurd cc
 step-asked system settings editor Erased pending h = absurd cc
 step-asked system settings editor NotMine pending h = absurd cc
 
+-- no piece is the best segmentation of no cell
+unbeaten-nil : (other : List Piece) → AddsUp 0 (lengths other) → is_lt (segmentation_cmp [] other) ≡ false
+unbeaten-nil [] adds = refl
+unbeaten-nil (piece ∷ other) adds =
+    let first = All-head (λ len. 1 ≤ len) (phrase_len piece.phrase) (lengths other) adds.each in
+    absurd (omega (arith, sum-cons (phrase_len piece.phrase) (lengths other), adds.whole))
+
+IsBest-nil : (usable : Interval → Option Piece) → IsBest usable 0 []
+IsBest-nil usable = record {
+  is_one = record { adds_up = record { whole = refl; each = All-nil (λ len. 1 ≤ len) }; are_usable = refl };
+  unbeaten = λ other is. unbeaten-nil other is.adds_up;
+}
+
 -- an editor with no cell is sound
 IsSound-emptied : (system : List Row) (settings : Settings) (editor : Editor) → is_layout editor.layout ≡ true → IsSound system settings (emptied editor)
 IsSound-emptied system settings editor h = record {
   placed = record { singles = All-nil (λ c. has_single system c ≡ true); few = omega arith; cursor = refl; layout = h };
   whole = refl;
   phrases = All-nil (λ piece. is_phrase piece.phrase ≡ true);
+  user = [];
+  best = IsBest-nil (piece_at (combined_hits system [] []) [] []);
 }
 
 pub IsSound-empty : (system : List Row) (settings : Settings) → IsSound system settings (empty_editor settings)

@@ -2,15 +2,10 @@
 -- no cell is a symbol, and the cursor stays behind the cells.
 use Rattle.std.specs.Prelude.{ℕ, List, [], flat_map, take, chars, false}
 use Rattle.unicode_width.specs.Width.{str_width}
-use Rattle.chew_spec_layout.specs.Layout.{Kind, Layout, new_layout, shown}
+use Rattle.chew_spec_layout.specs.Layout.{Layout, new_layout, shown}
 use Rattle.chew_spec_phrasing.specs.Usable.{Piece}
 use Rattle.chew_spec_text.specs.Line.{Line, Note}
-
--- what the user may set
-pub record Settings : Type 0 where
-  pub layout : Kind
-  -- the most cells that the pre-edit buffer holds
-  pub buffer : ℕ
+pub use Rattle.chew_spec_editor.specs.Settings.{Settings}
 
 -- the layout and what it holds, the syllables of the pre-edit buffer by their codes, the place of the cursor among
 -- them, and the pieces that are shown for them

@@ -1,10 +1,8 @@
-pub mod Context
 pub mod Editor
 pub mod Finish
 pub mod Keys
-pub mod Left
 pub mod Press
-pub mod Program
+pub mod Settings
 pub mod Sound
 pub mod Talk
 pub mod TenCells

@@ -9,21 +9,29 @@ use Rattle.chew_spec_editor.specs.Editor.{Settings, Editor, empty_editor}
 use Rattle.chew_spec_editor.specs.Finish.{finish}
 use Rattle.chew_spec_editor.specs.Press.{Pending, Pressed, Done, Ask, press}
 
--- the calls that the handled keys made, and a line for each of these keys
+-- a talk: the calls that the handled keys made, a line for each of these keys, the editor then, and the replies that
+-- they did not take
 pub record Talk : Type 0 where
   pub calls : List Call
   pub lines : List Line
+  pub editor : Editor
+  pub replies : List Reply
 
 -- how many keys were handled
 abbrev pub handled : Talk → ℕ
 handled talk = length talk.lines
 
--- a talk that ends here; one with a key before it, which made these calls and has this line
-abbrev pub silence : Talk
-silence = record { calls = []; lines = [] }
+-- a talk in which no key was handled
+abbrev pub silence : Editor → List Reply → Talk
+silence editor replies = record { calls = []; lines = []; editor = editor; replies = replies }
 
+-- a talk, with a key before it that made these calls and has this line
 abbrev pub after_key : List Call → Line → Talk → Talk
-after_key calls line talk = record { calls = calls ++ talk.calls; lines = line ∷ talk.lines }
+after_key calls line talk = record talk { calls = calls ++ talk.calls; lines = line ∷ talk.lines }
+
+-- a talk, and one that follows it
+abbrev pub followed : Talk → Talk → Talk
+followed talk next = record next { calls = talk.calls ++ next.calls; lines = talk.lines ++ next.lines }
 
 -- a key that was handled: its calls, its line, and the editor then
 pub record Turn : Type 0 where
@@ -49,11 +57,11 @@ turn_of system settings editor key replies = turn_after system (press system set
 
 -- the talk from an editor on: each key takes as many replies as it has calls, and it stops where too few are left
 unfoldable pub talk_from : List Row → Settings → Editor → List KeyStroke → List Reply → Talk
-talk_from system settings editor [] replies = silence
+talk_from system settings editor [] replies = silence editor replies
 talk_from system settings editor (key ∷ keys) replies =
     option_map_or
     (λ turn. after_key turn.calls turn.line (talk_from system settings turn.editor keys (drop (length turn.calls) replies)))
-    (turn_of system settings editor key replies) silence
+    (turn_of system settings editor key replies) (silence editor replies)
 
 -- the talk from an empty editor
 abbrev pub talk : List Row → Settings → List KeyStroke → List Reply → Talk

@@ -1,6 +1,6 @@
 //! Laws and known values of the definitions.
 
-mod journal;
+mod calls;
 mod keys;
 mod known;
 mod sound;

@@ -1,6 +1,6 @@
 //! Talks whose calls and lines are known.
 
-ghost use Rattle.std.specs.Prelude.{◌≡◌, ◌++◌, ◌∷◌, [], codes, drop, length, map, replicate, true};
+ghost use Rattle.std.specs.Prelude.{◌≡◌, ◌++◌, ◌∷◌, [], codes, drop, false, length, map, replicate, true};
 ghost use Rattle.std.specs.List.{list_all};
 ghost use Rattle.std.specs.Str.{encode_utf8_all};
 ghost use Rattle.chew_spec_syllable.specs.Row.{is_row, no_pair_twice};
@@ -9,8 +9,6 @@ ghost use Rattle.chew_spec_dictionary.specs.Call.{Look, Rows};
 ghost use Rattle.chew_spec_dictionary.specs.FiveRows.{ce4, five_rows, shi4};
 ghost use Rattle.chew_spec_text.specs.KeyStroke.{Backspace, Char, Enter, Esc, Tab};
 ghost use Rattle.chew_spec_text.specs.Line.{line_text};
-ghost use Rattle.chew_spec_editor.specs.Editor.{empty_editor};
-ghost use Rattle.chew_spec_editor.specs.Left.{left_from};
 ghost use Rattle.chew_spec_editor.specs.Talk.{talk};
 ghost use Rattle.chew_spec_editor.specs.TenCells.{ten_cells, ten_cells_of};
 
@@ -30,7 +28,7 @@ pub fn known_talk()
 
 /// Backspace takes the final that was typed last, so that the initial is held.
 pub fn known_backspace()
-    ensures held { shown (left_from five_rows ten_cells (empty_editor ten_cells) (map Char (codes "hk") ++ Backspace ∷ []) []).editor.layout
+    ensures held { shown (talk five_rows ten_cells (map Char (codes "hk") ++ Backspace ∷ []) []).editor.layout
         ≡ encode_utf8_all (codes "ㄘ") }
     ensures last { map line_text (drop 2 (talk five_rows ten_cells (map Char (codes "hk") ++ Backspace ∷ []) []).lines)
         ≡ encode_utf8_all (codes "\t0\tㄘ\t\t\t\n") ∷ [] }
@@ -81,10 +79,10 @@ pub fn known_unknown_syllable()
 /// A phrase that the user has with a greater frequency comes before the system's.
 pub fn known_user_phrase()
     ensures lines { map line_text (drop 2 (talk five_rows ten_cells (map Char (codes "hk4"))
-        (Rows (record { start = 0; len = 1; phrase = encode_utf8_all (codes "測"); freq = 201 } ∷ []) ∷ [])).lines)
+        (Rows (record { start = 0; len = 1; phrase = encode_utf8_all (codes "測"); freq = 201; hidden = false } ∷ []) ∷ [])).lines)
         ≡ encode_utf8_all (codes "測\t2\t\t\t\t\n") ∷ [] }
     ensures calls { (talk five_rows ten_cells (map Char (codes "hk4"))
-        (Rows (record { start = 0; len = 1; phrase = encode_utf8_all (codes "測"); freq = 201 } ∷ []) ∷ [])).calls
+        (Rows (record { start = 0; len = 1; phrase = encode_utf8_all (codes "測"); freq = 201; hidden = false } ∷ []) ∷ [])).calls
         ≡ Look (ce4 ∷ []) ∷ [] }
 {}
 

@@ -13,10 +13,9 @@ ghost use Rattle.chew_spec_text.specs.KeyStroke.{KeyStroke};
 ghost use Rattle.chew_spec_text.specs.Line.{Line};
 ghost use Rattle.chew_spec_editor.specs.Editor.{column_of, Editor, empty_editor, Settings, shown_text};
 ghost use Rattle.chew_spec_editor.specs.Finish.{finish, rows_in};
-ghost use Rattle.chew_spec_editor.specs.Left.{left_from};
 ghost use Rattle.chew_spec_editor.specs.Press.{Ask, Done, Pending, press};
-ghost use Rattle.chew_spec_editor.specs.Sound.{AreProper, AreRows, hits_in, IsPlaced, IsSound};
-ghost use Rattle.chew_spec_editor.specs.Talk.{Turn, turn_of};
+ghost use Rattle.chew_spec_editor.specs.Sound.{AreProper, AreRows, hits_in, IsPlaced, IsSound, ShowsSound};
+ghost use Rattle.chew_spec_editor.specs.Talk.{talk_from, Turn, turn_of};
 
 /// The pre-edit text has one character for each cell, and the column is that of the end of the text.
 pub fn one_character_a_cell()
@@ -42,7 +41,15 @@ pub fn talk_keeps_sound()
         → turn_of system settings editor key replies ≡ Some turn → IsSound system settings turn.editor }
     ensures left { (system : List Row) (settings : Settings) (editor : Editor) (keys : List KeyStroke) (replies : List Reply)
         → AreRows system → All (λ reply. AreProper (hits_in reply)) replies → IsSound system settings editor
-        → IsSound system settings (left_from system settings editor keys replies).editor }
+        → IsSound system settings (talk_from system settings editor keys replies).editor }
+{}
+
+/// Each line of a talk shows a sound editor: one character a cell, and the segmentation of the cells that no other
+/// exceeds.
+pub fn lines_show_the_best()
+    ensures { (system : List Row) (settings : Settings) (editor : Editor) (keys : List KeyStroke) (replies : List Reply)
+        → AreRows system → All (λ reply. AreProper (hits_in reply)) replies → IsSound system settings editor
+        → All (ShowsSound system settings) (talk_from system settings editor keys replies).lines }
 {}
 
 /// What a dictionary of rows answers to a look-up are phrases of the right lengths.

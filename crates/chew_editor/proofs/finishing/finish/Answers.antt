@@ -33,7 +33,7 @@ returns-clause-editor g c =
     let inside = c.pending.inside in
     finish-editor system c.args.pending (map reply_of c.args.replies.items) inside.settings (layout_of inside.layout) inside.cells.items inside.pieces.items
     c.in_ok-pieces.pieces.items (map call_of inside.calls.items) c.hits_in.result.now c.pending.view_is
-    (c.hits_in.ensures ∙ ap (λ replies. rows_in (map reply_of replies)) c.as_slice-2.ensures.value)
+    (c.hits_in.ensures.value ∙ ap (λ replies. rows_in (map reply_of replies)) c.as_slice-2.ensures.value)
     (subst (λ cells. c.in_ok-pieces.pieces.items ≡ best_pieces (combined_hits system cells c.hits_in.result.now) [] [] (length cells)) c.as_slice.ensures.value c.in_ok-pieces.ensures.best)
 
 pub returns-clause-line : goal.returns-clause-line

@@ -5,7 +5,9 @@ use Rattle.std.proofs.Common.{refl}
 use Rattle.unicode_width.proofs.Computing.{unicode_width}
 use Rattle.chew_spec_syllable.specs.SyllableText.{text_of}
 use Rattle.chew_spec_layout.specs.Letters.{fed_letters, reading_of}
-use Rattle.chew_spec_layout.specs.Spelling.{alone, bare_initials, ending_bare, endings_a, endings_i, endings_u, endings_v, endings_yu, fed_spelling, n_initials, palatal_initials, plain_initials, spelling_of, spellings}
+use Rattle.chew_spec_layout.specs.Endings.{ending_bare, endings_a, endings_i, endings_u, endings_v, endings_yu}
+use Rattle.chew_spec_layout.specs.Spellings.{alone, bare_initials, n_initials, palatal_initials, plain_initials, spelling_of, spellings}
+use Rattle.chew_spec_layout.specs.Pinyin.{fed_spelling}
 use Rattle.chew_spec_layout.specs.Table.{fed}
 use Rattle.chew_spec_dictionary.specs.FiveRows.{five_rows}
 use Rattle.chew_spec_phrasing.specs.Best.{best_of}

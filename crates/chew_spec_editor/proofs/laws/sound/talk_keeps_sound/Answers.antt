@@ -1,5 +1,5 @@
 use Rattle.chew_spec_editor.proofs.Placed.{IsSound-empty, press-placed, press-sound}
-use Rattle.chew_spec_editor.proofs.Sound.{finish-sound, left-sound, turn_of-sound}
+use Rattle.chew_spec_editor.proofs.Sound.{finish-sound, talk-sound, turn_of-sound}
 use Rattle.chew_spec_editor.proofs.laws.sound.talk_keeps_sound.Goals as goal
 
 pub returns-clause-empty : goal.returns-clause-empty
@@ -18,4 +18,4 @@ pub returns-clause-turned : goal.returns-clause-turned
 returns-clause-turned c = turn_of-sound
 
 pub returns-clause-left : goal.returns-clause-left
-returns-clause-left c = left-sound
+returns-clause-left c = talk-sound

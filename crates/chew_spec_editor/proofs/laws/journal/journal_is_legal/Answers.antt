@@ -1,5 +1,0 @@
-use Rattle.chew_spec_editor.proofs.Journal.{journal-legal}
-use Rattle.chew_spec_editor.proofs.laws.journal.journal_is_legal.Goals as goal
-
-pub returns : goal.returns
-returns c = journal-legal
