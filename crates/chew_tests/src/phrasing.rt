@@ -6,9 +6,9 @@ ghost use Rattle.chew_spec_phrasing.specs.CanSegment.{CanSegment, cell_at};
 ghost use Rattle.chew_spec_phrasing.specs.Combined.{is_hit_at};
 ghost use Rattle.chew_spec_phrasing.specs.Usable.{phrase_len};
 
-use crate::five_rows::{CE, SHI, are_apart, five, syllable};
 use chew_phrasing::{Piece, best, combine, score};
 use chew_plain::{Hit, RowMap};
+use chew_samples::{CE, SHI, are_apart, five, syllable};
 use chew_syllable::{NoMemory, Phrase, Run};
 use std::alloc::Global;
 use std::test::Fail;
@@ -31,6 +31,7 @@ fn hit(start: u8, len: u8, text: &str, freq: u32) -> Option<Hit>
         len,
         phrase,
         freq,
+        hidden: false,
     })
 }
 

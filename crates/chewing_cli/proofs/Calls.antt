@@ -6,7 +6,7 @@ use Rattle.std.proofs.lemmas.List.{append-nil, append_assoc, map-append, take_al
 use Rattle.chew_spec_dictionary.specs.Call.{Call, Reply}
 use Rattle.chew_spec_dictionary.specs.History.{Entry, Point, after, answer, own, replies}
 use Rattle.chew_spec_dictionary.proofs.Histories.{after_joined, replies_joined}
-use Rattle.chew_spec_editor.specs.Context.{IsFront}
+use Rattle.chew_spec_dictionary.specs.Growth.{IsFront}
 use Rattle.chewing_cli.specs.Progress.{Asks, Progress, asked, entries_by, heard}
 
 -- calls and then more are entries and then more

@@ -1,8 +1,8 @@
-pub mod Reading
-pub mod Openings
 pub mod Calls
-pub mod Turned
-pub mod Talking
 pub mod Contexts
 pub mod Ends
-pub mod Programs
+pub mod Openings
+pub mod Reading
+pub mod Sent
+pub mod Talking
+pub mod Turned

@@ -1,87 +1,66 @@
 -- The keys of a context, handled one after another.
 use Rattle.std.specs.Prelude.{◌≡◌, ℕ, suc, ◌+◌, ◌≤◌, ◌<◌, Bool, true, false, List, [], ◌∷◌, ◌++◌, flat_map, length, map, take, drop, Option, Some}
 use Rattle.std.specs.Option.{option_map_or}
-use Rattle.std.proofs.Common.{refl, ap, ap₂, sym, subst, ◌∙◌, arith, cond, eqb, get_or, true≢false}
+use Rattle.std.proofs.Common.{refl, ap, ap₂, sym, subst, ◌∙◌, arith, cond, eqb, get_or}
 use Rattle.std.proofs.lemmas.Grind.{flat_map-append}
 use Rattle.std.proofs.lemmas.List.{append-nil, append_assoc, length-append, length-take-le, drop_all}
 use Rattle.std.proofs.Math.Seq.{drop-cons}
 use Rattle.chew_spec_syllable.specs.Row.{Row}
 use Rattle.chew_spec_dictionary.specs.Call.{Call, Reply}
 use Rattle.chew_spec_dictionary.specs.History.{Entry, Point, after, answer, calls_of, own, replies}
+use Rattle.chew_spec_dictionary.specs.Growth.{IsFront}
 use Rattle.chew_spec_dictionary.proofs.Histories.{own_joined, replies_joined}
-use Rattle.chew_spec_editor.specs.Context.{Ground, Handles, IsFront, next_calls}
-use Rattle.chew_spec_editor.specs.Editor.{Settings, Editor, empty_editor}
-use Rattle.chew_spec_editor.specs.Left.{Left, followed, left_from}
-use Rattle.chew_spec_editor.specs.Talk.{Talk, Turn, after_key, handled, silence, talk_from, turn_of}
+use Rattle.chew_spec_editor.specs.Editor.{Editor, empty_editor}
+use Rattle.chew_spec_editor.specs.Settings.{Settings}
+use Rattle.chew_spec_editor.specs.Talk.{Talk, Turn, after_key, followed, handled, silence, talk_from, turn_of}
 use Rattle.chew_spec_editor.proofs.Talks as talks
 use Rattle.chew_spec_text.specs.KeyStroke.{KeyStroke}
 use Rattle.chew_spec_text.specs.Line.{Line, line_text}
+use Rattle.chew_spec_program.specs.Context.{Basis, Handles, calls_with_next, next_calls}
 use Rattle.chewing_cli.specs.Progress.{Handled, IsFresh, Progress, Stops, Talks, Turns, asked, entries_by, heard, printed}
 use Rattle.chewing_cli.proofs.Calls.{asked_joined, asked_none, calls-entries, front-nil, heard_joined, length-heard, own-entries}
 
 -- the talk over one key that was handled
 talk_one : (system : List Row) (settings : Settings) (editor : Editor) (key : KeyStroke) (replies : List Reply) (turn : Turn)
-    → turn_of system settings editor key replies ≡ Some turn
-    → talk_from system settings editor (key ∷ []) replies ≡ record { calls = turn.calls; lines = turn.line ∷ [] }
-unfolding talk_from
-talk_one system settings editor key replies turn e =
-    ap (λ (o : Option Turn). option_map_or (λ (t : Turn). after_key t.calls t.line silence) o silence) e
-    ∙ ap (λ (l : List Call). record { calls = l; lines = turn.line ∷ [] }) (append-nil turn.calls)
-
--- and what it leaves
-left_one : (system : List Row) (settings : Settings) (editor : Editor) (key : KeyStroke) (replies : List Reply) (turn : Turn)
     → turn_of system settings editor key replies ≡ Some turn → length replies ≤ length turn.calls
-    → left_from system settings editor (key ∷ []) replies ≡ record { editor = turn.editor; replies = [] }
-unfolding left_from
-left_one system settings editor key replies turn e all =
-    ap (λ (o : Option Turn). option_map_or (λ (t : Turn). record { editor = t.editor; replies = drop (length t.calls) replies }) o (record { editor = editor; replies = replies })) e
-    ∙ ap (λ (l : List Reply). record { editor = turn.editor; replies = l }) (drop_all (length turn.calls) replies all)
+    → talk_from system settings editor (key ∷ []) replies ≡ record { calls = turn.calls; lines = turn.line ∷ []; editor = turn.editor; replies = [] }
+unfolding talk_from
+talk_one system settings editor key replies turn e all =
+    ap (λ (o : Option Turn). option_map_or (λ (t : Turn). after_key t.calls t.line (silence t.editor (drop (length t.calls) replies))) o (silence editor replies)) e
+    ∙ ap₂ (λ (l : List Call) (r : List Reply). record { calls = l; lines = turn.line ∷ []; editor = turn.editor; replies = r })
+    (append-nil turn.calls) (drop_all (length turn.calls) replies all)
 
 -- no key was handled yet
 pub talks_none : (system : List Row) (settings : Settings) (who : ℕ) (had : Progress) → Talks system settings who [] had had (empty_editor settings)
-unfolding talk_from left_from
+unfolding talk_from
 talks_none system settings who had = record {
   calls = [];
   lines = [];
   talked = refl;
-  left = refl;
   each = refl;
   made = sym (ap (λ (p : Progress). printed [] p) (asked_none who had) ∙ ap (λ (l : List ℕ). record had { text = l }) (append-nil had.text));
 }
 
 -- further replies change no talk whose keys were all handled
 module _ (system : List Row) (settings : Settings) (keys : List KeyStroke) (heard_by more : List Reply) (calls : List Call) (lines : List Line) (had : Editor)
-    (talked : talk_from system settings (empty_editor settings) keys heard_by ≡ record { calls = calls; lines = lines })
-    (left : left_from system settings (empty_editor settings) keys heard_by ≡ record { editor = had; replies = [] })
+    (talked : talk_from system settings (empty_editor settings) keys heard_by ≡ record { calls = calls; lines = lines; editor = had; replies = [] })
     (each : length lines ≡ length keys) where
   all_handled : handled (talk_from system settings (empty_editor settings) keys heard_by) ≡ length keys
-  all_handled = ap (λ (t : Talk). length t.lines) talked ∙ each
+  all_handled = ap handled talked ∙ each
 
-  talk_longer : talk_from system settings (empty_editor settings) keys (heard_by ++ more) ≡ record { calls = calls; lines = lines }
-  talk_longer = talks.more_replies system settings (empty_editor settings) keys heard_by more all_handled ∙ talked
-
-  left_longer : left_from system settings (empty_editor settings) keys (heard_by ++ more) ≡ record { editor = had; replies = more }
-  left_longer =
-      talks.left_more system settings (empty_editor settings) keys heard_by more all_handled
-      ∙ ap (λ (l : Left). record { editor = l.editor; replies = l.replies ++ more }) left
-
-  longer_handled : handled (talk_from system settings (empty_editor settings) keys (heard_by ++ more)) ≡ length keys
-  longer_handled = ap (λ (t : Talk). length t.lines) talk_longer ∙ each
+  longer : talk_from system settings (empty_editor settings) keys (heard_by ++ more) ≡ record { calls = calls; lines = lines; editor = had; replies = more }
+  longer =
+      talks.more_replies system settings (empty_editor settings) keys heard_by more all_handled
+      ∙ ap (λ (t : Talk). record t { replies = t.replies ++ more }) talked
 
   -- one key more
-  talk_more : (key : KeyStroke) (turn : Turn) → turn_of system settings had key more ≡ Some turn
-      → talk_from system settings (empty_editor settings) (keys ++ (key ∷ [])) (heard_by ++ more) ≡ record { calls = calls ++ turn.calls; lines = lines ++ (turn.line ∷ []) }
-  talk_more key turn e =
-      talks.joined system settings (empty_editor settings) keys (key ∷ []) (heard_by ++ more) longer_handled
-      ∙ ap₂ (λ (t : Talk) (l : Left). followed t (talk_from system settings l.editor (key ∷ []) l.replies)) talk_longer left_longer
-      ∙ ap (followed (record { calls = calls; lines = lines })) (talk_one system settings had key more turn e)
-
-  left_more_key : (key : KeyStroke) (turn : Turn) → turn_of system settings had key more ≡ Some turn → length more ≤ length turn.calls
-      → left_from system settings (empty_editor settings) (keys ++ (key ∷ [])) (heard_by ++ more) ≡ record { editor = turn.editor; replies = [] }
-  left_more_key key turn e all =
-      talks.left-joined system settings (empty_editor settings) keys (key ∷ []) (heard_by ++ more) longer_handled
-      ∙ ap (λ (l : Left). left_from system settings l.editor (key ∷ []) l.replies) left_longer
-      ∙ left_one system settings had key more turn e all
+  talk_more : (key : KeyStroke) (turn : Turn) → turn_of system settings had key more ≡ Some turn → length more ≤ length turn.calls
+      → talk_from system settings (empty_editor settings) (keys ++ (key ∷ [])) (heard_by ++ more)
+      ≡ record { calls = calls ++ turn.calls; lines = lines ++ (turn.line ∷ []); editor = turn.editor; replies = [] }
+  talk_more key turn e all =
+      talks.joined system settings (empty_editor settings) keys (key ∷ []) (heard_by ++ more) (ap handled longer ∙ each)
+      ∙ ap (λ (t : Talk). followed t (talk_from system settings t.editor (key ∷ []) t.replies)) longer
+      ∙ ap (followed (record { calls = calls; lines = lines; editor = had; replies = more })) (talk_one system settings had key more turn e all)
 
 -- the lines of more keys are printed behind those before
 lines_more : (text : List ℕ) (lines : List Line) (line : Line) → (text ++ flat_map line_text lines) ++ line_text line ≡ text ++ flat_map line_text (lines ++ (line ∷ []))
@@ -114,9 +93,7 @@ talks_more system settings who keys key before now next had editor talks turns =
       calls = talks.calls ++ turns.calls;
       lines = talks.lines ++ (turns.line ∷ []);
       talked = ap (talk_from system settings (empty_editor settings) (keys ++ (key ∷ []))) both
-          ∙ talk_more system settings keys first second talks.calls talks.lines had talks.talked talks.left talks.each key turn turned;
-      left = ap (left_from system settings (empty_editor settings) (keys ++ (key ∷ []))) both
-          ∙ left_more_key system settings keys first second talks.calls talks.lines had talks.talked talks.left talks.each key turn turned few;
+          ∙ talk_more system settings keys first second talks.calls talks.lines had talks.talked talks.each key turn turned few;
       each = length-append talks.lines (turns.line ∷ []) ∙ ap (λ (n : ℕ). n + 1) talks.each ∙ sym (length-append keys (key ∷ []));
       made = printed_more who talks.calls turns.calls talks.lines turns.line before now next talks.made turns.made;
     }
@@ -134,50 +111,57 @@ no_replies point (entry ∷ journal) who e =
     (no_replies (answer point entry.call).point journal who) e
 
 -- the calls of a number that had made none, and what it hears of them
-pub heard_fresh : (ground : Ground) (who : ℕ) (had : Progress) (calls : List Call) → IsFresh ground who had
-    → replies ground.start (had.journal ++ entries_by who calls) who ≡ heard had.point who calls
-heard_fresh ground who had calls fresh =
-    replies_joined ground.start had.journal (entries_by who calls) who
-    ∙ ap₂ (λ (l : List Reply) (p : Point). l ++ heard p who calls) (no_replies ground.start had.journal who fresh.none) (sym fresh.point)
+heard_fresh : (start : Point) (who : ℕ) (had : Progress) (calls : List Call) → IsFresh start who had
+    → replies start (had.journal ++ entries_by who calls) who ≡ heard had.point who calls
+heard_fresh start who had calls fresh =
+    replies_joined start had.journal (entries_by who calls) who
+    ∙ ap₂ (λ (l : List Reply) (p : Point). l ++ heard p who calls) (no_replies start had.journal who fresh.none) (sym fresh.point)
 
-calls_fresh : (ground : Ground) (who : ℕ) (had : Progress) (calls : List Call) → IsFresh ground who had
+calls_fresh : (start : Point) (who : ℕ) (had : Progress) (calls : List Call) → IsFresh start who had
     → calls_of (had.journal ++ entries_by who calls) who ≡ calls
-calls_fresh ground who had calls fresh =
+calls_fresh start who had calls fresh =
     ap (map (λ (e : Entry). e.call)) (own_joined had.journal (entries_by who calls) who
     ∙ ap₂ (λ (a b : List Entry). a ++ b) fresh.none (own-entries who calls))
     ∙ calls-entries who calls
 
+-- a front stays one behind the same list
+front_behind : (before front whole : List Call) → IsFront front whole → IsFront (before ++ front) (before ++ whole)
+front_behind before front whole is =
+    record { rest = is.rest; joined = ap (λ (l : List Call). before ++ l) is.joined ∙ sym (append_assoc before front is.rest) }
+
 -- what a context handled, where these calls of the next key were made
-handles_of : (ground : Ground) (who : ℕ) (keys : List KeyStroke) (i : ℕ) (before : Progress) (calls unfinished : List Call) (lines : List Line) (had : Editor)
-    → IsFresh ground who before
-    → talk_from ground.system ground.settings (empty_editor ground.settings) (take i keys) (heard before.point who calls) ≡ record { calls = calls; lines = lines }
-    → left_from ground.system ground.settings (empty_editor ground.settings) (take i keys) (heard before.point who calls) ≡ record { editor = had; replies = [] }
-    → length lines ≡ length (take i keys) → i ≤ length keys → IsFront unfinished (next_calls ground had (drop i keys))
-    → Handles ground (before.journal ++ entries_by who (calls ++ unfinished)) who keys i lines
-handles_of ground who keys i before calls unfinished lines had fresh talked left each within front =
+handles_of : (basis : Basis) (who : ℕ) (keys : List KeyStroke) (i : ℕ) (before : Progress) (calls unfinished : List Call) (lines : List Line) (had : Editor)
+    → IsFresh basis.start who before
+    → talk_from basis.system basis.settings (empty_editor basis.settings) (take i keys) (heard before.point who calls)
+    ≡ record { calls = calls; lines = lines; editor = had; replies = [] }
+    → length lines ≡ length (take i keys) → i ≤ length keys → IsFront unfinished (next_calls basis had (drop i keys))
+    → Handles basis (before.journal ++ entries_by who (calls ++ unfinished)) who keys i lines
+handles_of basis who keys i before calls unfinished lines had fresh talked each within front =
     let more : List Reply = heard (after before.point (entries_by who calls)) who unfinished in
     let first : List Reply = heard before.point who calls in
-    let all : replies ground.start (before.journal ++ entries_by who (calls ++ unfinished)) who ≡ first ++ more =
-    heard_fresh ground who before (calls ++ unfinished) fresh ∙ heard_joined before.point who calls unfinished in
-    let talk : talk_from ground.system ground.settings (empty_editor ground.settings) (take i keys) (replies ground.start (before.journal ++ entries_by who (calls ++ unfinished)) who) ≡ record { calls = calls; lines = lines } =
-    ap (talk_from ground.system ground.settings (empty_editor ground.settings) (take i keys)) all ∙ talk_longer ground.system ground.settings (take i keys) first more calls lines had talked left each in
-    let leaves : left_from ground.system ground.settings (empty_editor ground.settings) (take i keys) (replies ground.start (before.journal ++ entries_by who (calls ++ unfinished)) who) ≡ record { editor = had; replies = more } =
-    ap (left_from ground.system ground.settings (empty_editor ground.settings) (take i keys)) all ∙ left_longer ground.system ground.settings (take i keys) first more calls lines had talked left each in
+    let all : replies basis.start (before.journal ++ entries_by who (calls ++ unfinished)) who ≡ first ++ more =
+    heard_fresh basis.start who before (calls ++ unfinished) fresh ∙ heard_joined before.point who calls unfinished in
+    let whole : Talk = record { calls = calls; lines = lines; editor = had; replies = more } in
+    let talk : talk_from basis.system basis.settings (empty_editor basis.settings) (take i keys) (replies basis.start (before.journal ++ entries_by who (calls ++ unfinished)) who) ≡ whole =
+    ap (talk_from basis.system basis.settings (empty_editor basis.settings) (take i keys)) all
+    ∙ longer basis.system basis.settings (take i keys) first more calls lines had talked each in
+    let mine : calls_of (before.journal ++ entries_by who (calls ++ unfinished)) who ≡ calls ++ unfinished = calls_fresh basis.start who before (calls ++ unfinished) fresh in
     record {
-      within = within;
       each = each ∙ length-take-le i keys within;
       talked = sym (ap (λ (t : Talk). t.lines) talk);
-      unfinished = unfinished;
-      calls = calls_fresh ground who before (calls ++ unfinished) fresh ∙ ap (λ (t : Talk). t.calls ++ unfinished) (sym talk);
-      next = subst (λ (l : Left). IsFront unfinished (next_calls ground l.editor (drop i keys))) (sym leaves) front;
+      made = subst (λ (t : Talk). IsFront t.calls (calls_of (before.journal ++ entries_by who (calls ++ unfinished)) who)) (sym talk)
+          (record { rest = unfinished; joined = mine });
+      next = subst (λ (t : Talk). IsFront (calls_of (before.journal ++ entries_by who (calls ++ unfinished)) who) (calls_with_next basis t (drop i keys))) (sym talk)
+          (subst (λ (l : List Call). IsFront l (calls_with_next basis whole (drop i keys))) (sym mine)
+          (front_behind calls unfinished (next_calls basis had (drop i keys)) front));
     }
 
 -- a context that handled all of its keys
-pub handled_all : (ground : Ground) (who : ℕ) (keys : List KeyStroke) (i : ℕ) (before now : Progress) (had : Editor) → IsFresh ground who before
-    → length keys ≤ i → i ≤ length keys → Talks ground.system ground.settings who (take i keys) before now had → Handled ground who keys before now i
-handled_all ground who keys i before now had fresh all within talks =
-    let nothing : IsFront [] (next_calls ground had (drop i keys)) = front-nil (next_calls ground had (drop i keys)) in
-    let handles = handles_of ground who keys i before talks.calls [] talks.lines had fresh talks.talked talks.left talks.each within nothing in
+pub handled_all : (basis : Basis) (who : ℕ) (keys : List KeyStroke) (i : ℕ) (before now : Progress) (had : Editor) → IsFresh basis.start who before
+    → i ≤ length keys → Talks basis.system basis.settings who (take i keys) before now had → Handled basis who keys before now i
+handled_all basis who keys i before now had fresh within talks =
+    let nothing : IsFront [] (next_calls basis had (drop i keys)) = front-nil (next_calls basis had (drop i keys)) in
+    let handles = handles_of basis who keys i before talks.calls [] talks.lines had fresh talks.talked talks.each within nothing in
     let journal : now.journal ≡ before.journal ++ entries_by who talks.calls = ap (λ (p : Progress). p.journal) talks.made in
     record {
       calls = talks.calls;
@@ -185,37 +169,28 @@ handled_all ground who keys i before now had fresh all within talks =
       journal = journal;
       point = ap (λ (p : Progress). p.point) talks.made;
       text = ap (λ (p : Progress). p.text) talks.made;
-      handles = subst (λ (j : List Entry). Handles ground j who keys i talks.lines)
+      handles = subst (λ (j : List Entry). Handles basis j who keys i talks.lines)
           (ap (λ (l : List Call). before.journal ++ entries_by who l) (append-nil talks.calls) ∙ sym journal) handles;
-      whole = λ _. omega arith;
     }
 
 -- a context that was stopped at a key
-pub handled_stopped : (ground : Ground) (who : ℕ) (keys : List KeyStroke) (i : ℕ) (key : KeyStroke) (before now next last : Progress) (had : Editor) → IsFresh ground who before
-    → i < length keys → key ≡ get_or keys i key → Talks ground.system ground.settings who (take i keys) before now had
-    → Stops ground.system ground.settings who key had now next → last ≡ record next { refused = true } → Handled ground who keys before last i
-handled_stopped ground who keys i key before now next last had fresh within is talks stops ends =
+pub handled_stopped : (basis : Basis) (who : ℕ) (keys : List KeyStroke) (i : ℕ) (key : KeyStroke) (before now next : Progress) (had : Editor) → IsFresh basis.start who before
+    → i < length keys → key ≡ get_or keys i key → Talks basis.system basis.settings who (take i keys) before now had
+    → Stops basis.system basis.settings who key had now next → Handled basis who keys before next i
+handled_stopped basis who keys i key before now next had fresh within is talks stops =
     let made : next ≡ printed (flat_map line_text talks.lines) (asked who (talks.calls ++ stops.unfinished) before) =
     stops.made ∙ ap (asked who stops.unfinished) talks.made
     ∙ ap (printed (flat_map line_text talks.lines)) (sym (asked_joined who talks.calls stops.unfinished before)) in
-    let front : IsFront stops.unfinished (next_calls ground had (drop i keys)) =
-    subst (λ (l : List KeyStroke). IsFront stops.unfinished (next_calls ground had l))
+    let front : IsFront stops.unfinished (next_calls basis had (drop i keys)) =
+    subst (λ (l : List KeyStroke). IsFront stops.unfinished (next_calls basis had l))
     (ap (λ (k : KeyStroke). k ∷ drop (suc i) keys) is ∙ sym (drop-cons keys i key within)) stops.front in
-    let journal : last.journal ≡ before.journal ++ entries_by who (talks.calls ++ stops.unfinished) = ap (λ (p : Progress). p.journal) ends ∙ ap (λ (p : Progress). p.journal) made in
+    let journal : next.journal ≡ before.journal ++ entries_by who (talks.calls ++ stops.unfinished) = ap (λ (p : Progress). p.journal) made in
     record {
       calls = talks.calls ++ stops.unfinished;
       lines = talks.lines;
       journal = journal;
-      point = ap (λ (p : Progress). p.point) ends ∙ ap (λ (p : Progress). p.point) made;
-      text = ap (λ (p : Progress). p.text) ends ∙ ap (λ (p : Progress). p.text) made;
-      handles = subst (λ (j : List Entry). Handles ground j who keys i talks.lines) (sym journal)
-          (handles_of ground who keys i before talks.calls stops.unfinished talks.lines had fresh talks.talked talks.left talks.each (omega arith) front);
-      whole = λ e. absurd (true≢false (sym (ap (λ (p : Progress). p.refused) ends) ∙ e));
+      point = ap (λ (p : Progress). p.point) made;
+      text = ap (λ (p : Progress). p.text) made;
+      handles = subst (λ (j : List Entry). Handles basis j who keys i talks.lines) (sym journal)
+          (handles_of basis who keys i before talks.calls stops.unfinished talks.lines had fresh talks.talked talks.each (omega arith) front);
     }
-
--- a context that handled no key
-pub handles_none : (ground : Ground) (who : ℕ) (keys : List KeyStroke) (before : Progress) → IsFresh ground who before → Handles ground before.journal who keys 0 []
-unfolding talk_from left_from
-handles_none ground who keys before fresh =
-    subst (λ (j : List Entry). Handles ground j who keys 0 []) (append-nil before.journal)
-    (handles_of ground who keys 0 before [] [] [] (empty_editor ground.settings) fresh refl refl refl (omega arith) (front-nil (next_calls ground (empty_editor ground.settings) keys)))

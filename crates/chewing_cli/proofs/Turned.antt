@@ -1,11 +1,11 @@
 -- A key that was handled, and one that was not.
-use Rattle.std.specs.Prelude.{◌≡◌, ℕ, List, [], length, take, Some}
+use Rattle.std.specs.Prelude.{◌≡◌, ℕ, List, [], length, take, Some, Result, Ok, Err, IfOk, OnErr}
 use Rattle.std.proofs.Common.{ap, sym, subst, ◌∙◌, arith}
 use Rattle.std.proofs.lemmas.Bool.{cond-true, le-leb}
 use Rattle.std.proofs.lemmas.List.{take_all}
 use Rattle.chew_spec_syllable.specs.Row.{Row}
 use Rattle.chew_spec_dictionary.specs.Call.{Reply}
-use Rattle.chew_spec_editor.specs.Context.{IsFront}
+use Rattle.chew_spec_dictionary.specs.Growth.{IsFront}
 use Rattle.chew_spec_editor.specs.Editor.{Settings, Editor}
 use Rattle.chew_spec_editor.specs.Finish.{finish}
 use Rattle.chew_spec_editor.specs.Keys.{calls_asked}
@@ -63,3 +63,19 @@ stops_within system settings who key had pending before now is asks = record {
   front = subst (λ (p : Pressed). IsFront (take asks.count pending.calls) (calls_asked p)) is (front-take asks.count pending.calls);
   made = asks.made;
 }
+
+-- the same of the outcome of a key that asked
+pub answered : {N E : Type 0} (system : List Row) (settings : Settings) (who : ℕ) (key : KeyStroke) (had : Editor) (pending : Pending) (before now : Progress)
+    (view : N → Editor) (outcome : Result N E) → Ask pending ≡ press system settings had key
+    → IfOk outcome (λ next. view next ≡ (finish system pending (heard before.point who pending.calls)).editor)
+    → IfOk outcome (λ next. now ≡ printed (line_text (finish system pending (heard before.point who pending.calls)).line) (asked who pending.calls before))
+    → IfOk outcome (λ next. Turns system settings who key had before now (view next))
+answered system settings who key had pending before now view (Ok next) is next_is made =
+    turns_asked system settings who key had (view next) pending before now is next_is made
+answered system settings who key had pending before now view (Err refused) is next_is made = tt
+
+pub stopped : {N E : Type 0} (system : List Row) (settings : Settings) (who : ℕ) (key : KeyStroke) (had : Editor) (pending : Pending) (before now : Progress)
+    (outcome : Result N E) → Ask pending ≡ press system settings had key → OnErr outcome (Asks who pending.calls before now)
+    → OnErr outcome (Stops system settings who key had before now)
+stopped system settings who key had pending before now (Ok next) is asks = tt
+stopped system settings who key had pending before now (Err refused) is asks = stops_within system settings who key had pending before now is asks

@@ -3,4 +3,3 @@ pub mod Opens
 pub mod Progress
 pub mod Refusals
 pub mod Runs
-pub mod Sends

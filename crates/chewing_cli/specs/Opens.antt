@@ -1,17 +1,14 @@
 -- What was read of an input and what it gives, and what the inputs of a run give.
-use Rattle.std.specs.Prelude.{◌≡◌, ◌≢◌, ◌⊎◌, ℕ, List, Option, Result, Ok, Err}
+use Rattle.std.specs.Prelude.{◌≡◌, ◌⊎◌, ℕ, List, Option, Result, Ok, Err}
 use Rattle.chew_spec_syllable.specs.Row.{Row, image_cmp}
 use Rattle.chew_spec_dictionary.specs.Order.{in_order}
 use Rattle.chew_spec_text.specs.DictionaryText.{RowCause, dictionary_rows}
 use Rattle.chew_spec_text.specs.Lines.{Fault}
-use Rattle.chew_spec_text.specs.Output.{Refusal, NoMemory}
-use Rattle.chew_spec_text.specs.Run as spec
-use Rattle.chew_spec_text.specs.Run.{IsReadOf, IsReadOut, ReadsInOrder, Texts, Watched, opening, value_or_refusal}
-use Rattle.chewing_cli.specs.declared.opening.Inputs.{Inputs}
-
--- what a source had left before a call and after, and its count of faults then
-abbrev pub watched : (left left_now : Option (List ℕ)) (before now : ℕ) → Watched
-watched left left_now before now = record { left = left; left_now = left_now; faults_before = before; faults_now = now }
+use Rattle.chew_spec_program.specs.Opening.{Inputs, value_or_refusal}
+use Rattle.chew_spec_program.specs.Reading.{IsRead, Watched}
+use Rattle.chew_spec_program.specs.Refusal.{Refusal, NoMemory}
+use Rattle.chewing_cli.specs.Progress.{basis_over}
+use Rattle.chewing_cli.specs.declared.opening.Opened.{Opened}
 
 -- rows in image order, where there are rows
 abbrev pub in_image_order : {F : Type 0} → Result (List Row) F → Result (List Row) F
@@ -23,22 +20,19 @@ abbrev pub system_rows : List ℕ → Result (List Row) (Fault RowCause)
 system_rows text = in_image_order (dictionary_rows text)
 
 -- the inputs as the definitions see them
-abbrev pub inputs_as : Inputs → spec.Inputs
-inputs_as inputs = record { system = inputs.system; contexts = inputs.script.contexts }
+abbrev pub inputs_of : Opened → Inputs
+inputs_of opened = record { basis = basis_over opened.system opened.plain; script = opened.script }
 
--- the outcome is this, or memory was wanting
+-- memory was wanting, or the outcome is this
 abbrev pub IsOrNoMemory : {X : Type 0} → Result X Refusal → Result X Refusal → Type 0
 IsOrNoMemory wanted outcome = (outcome ≡ Err NoMemory) ⊎ (outcome ≡ wanted)
 
--- a text was read of the source, and its value is the outcome; it was read out unless memory was wanting
+-- a text was read of the source, and its value is the outcome
 pub record Reads {X F : Type 0} (value : List ℕ → Result X F) (refusal : F → Refusal) (limit : ℕ) (source : Watched) (outcome : Result X Refusal) : Type 0 where
   pub text : Option (List ℕ)
-  pub read : IsReadOf source limit text
-  pub gives : IsOrNoMemory (value_or_refusal value refusal text) outcome
-  pub out : outcome ≢ Err NoMemory → IsReadOut source limit text
+  pub read : IsRead source limit text
+  pub gives : outcome ≡ value_or_refusal value refusal text
 
--- texts were read of the two sources, and they open the outcome
-pub record Opens (words : List (List ℕ)) (system script : Watched) (outcome : Result spec.Inputs Refusal) : Type 0 where
-  pub texts : Texts system script
-  pub gives : IsOrNoMemory (opening words texts.system_text texts.script_text) outcome
-  pub read : outcome ≢ Err NoMemory → ReadsInOrder words system script texts
+-- the same, or memory was wanting
+abbrev pub ReadsOrNoMemory : {X F : Type 0} → (List ℕ → Result X F) → (F → Refusal) → ℕ → Watched → Result X Refusal → Type 0
+ReadsOrNoMemory value refusal limit source outcome = (outcome ≡ Err NoMemory) ⊎ Reads value refusal limit source outcome

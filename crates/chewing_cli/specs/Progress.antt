@@ -1,35 +1,32 @@
 -- A run so far, and what a call, a key, a context and all contexts make of it.
-use Rattle.std.specs.Prelude.{◌≡◌, ℕ, ◌≤◌, Bool, true, false, List, [], ◌++◌, All, flat_map, length, map, take, Some}
+use Rattle.std.specs.Prelude.{◌≡◌, ℕ, ◌≤◌, List, [], ◌++◌, All, flat_map, length, map, take, Some}
 use Rattle.chew_spec_syllable.specs.Row.{Row}
 use Rattle.chew_spec_dictionary.specs.Call.{Call, Reply}
-use Rattle.chew_spec_dictionary.specs.History.{Entry, Point, after, own, replies, start_of}
-use Rattle.chew_spec_layout.specs.Layout.{Standard}
+use Rattle.chew_spec_dictionary.specs.History.{Entry, Point, after, own, replies}
+use Rattle.chew_spec_dictionary.specs.Growth.{IsFront}
 use Rattle.chew_spec_text.specs.KeyStroke.{KeyStroke}
 use Rattle.chew_spec_text.specs.Line.{Line, line_text}
-use Rattle.chew_spec_text.specs.Output.{context_text, output}
-use Rattle.chew_spec_editor.specs.Context.{Ground, HandleAll, Handles, IsFront}
-use Rattle.chew_spec_editor.specs.Editor.{Settings, Editor, empty_editor}
+use Rattle.chew_spec_editor.specs.Editor.{Editor, empty_editor}
 use Rattle.chew_spec_editor.specs.Keys.{calls_asked}
-use Rattle.chew_spec_editor.specs.Left.{left_from}
 use Rattle.chew_spec_editor.specs.Press.{press}
-use Rattle.chew_spec_editor.specs.Program.{IsOfContext}
+use Rattle.chew_spec_editor.specs.Settings.{Settings, standard_settings}
 use Rattle.chew_spec_editor.specs.Talk.{talk_from, turn_of}
+use Rattle.chew_spec_program.specs.Context.{Basis, HandleAll, Handles, IsOfContext}
 
--- the calls that were made, the point of the dictionary, the lines that were printed, and whether memory was
--- refused since
+-- the calls that were made, the point of the dictionary, and the lines that the context that types has printed
 pub record Progress : Type 0 where
   pub journal : List Entry
   pub point : Point
   pub text : List ℕ
-  pub refused : Bool
 
--- what a run stands on: its system, the standard settings, and the user's dictionary without a pair
-abbrev pub ground_of : List Row → Ground
-ground_of system = record {
-  system = system;
-  settings = record { layout = Standard; buffer = 10 };
-  start = start_of (record { pairs = []; life = 0; cap = 65_536 });
-}
+-- how a context ended: the number of its handled keys, and their lines as they are printed
+pub record ContextEnd : Type 0 where
+  pub handled : ℕ
+  pub text : List ℕ
+
+-- what a run stands on that begins with this dictionary
+abbrev pub basis_over : List Row → Point → Basis
+basis_over system start = record { system = system; settings = standard_settings; start = start }
 
 -- the calls as entries of this number
 abbrev pub entries_by : ℕ → List Call → List Entry
@@ -74,43 +71,40 @@ pub record Stops (system : List Row) (settings : Settings) (who : ℕ) (key : Ke
 pub record Talks (system : List Row) (settings : Settings) (who : ℕ) (keys : List KeyStroke) (before now : Progress) (editor : Editor) : Type 0 where
   pub calls : List Call
   pub lines : List Line
-  pub talked : talk_from system settings (empty_editor settings) keys (heard before.point who calls) ≡ record { calls = calls; lines = lines }
-  pub left : left_from system settings (empty_editor settings) keys (heard before.point who calls) ≡ record { editor = editor; replies = [] }
+  pub talked : talk_from system settings (empty_editor settings) keys (heard before.point who calls)
+      ≡ record { calls = calls; lines = lines; editor = editor; replies = [] }
   pub each : length lines ≡ length keys
   pub made : now ≡ printed (flat_map line_text lines) (asked who calls before)
 
 -- the point of the dictionary is that of the journal, and the number made no call
-pub record IsFresh (ground : Ground) (who : ℕ) (had : Progress) : Type 0 where
-  pub point : had.point ≡ after ground.start had.journal
+pub record IsFresh (start : Point) (who : ℕ) (had : Progress) : Type 0 where
+  pub point : had.point ≡ after start had.journal
   pub none : own had.journal who ≡ []
 
--- behind its header a context handled so many of its keys
-pub record Handled (ground : Ground) (who : ℕ) (keys : List KeyStroke) (before now : Progress) (count : ℕ) : Type 0 where
+-- a context handled so many of its keys
+pub record Handled (basis : Basis) (who : ℕ) (keys : List KeyStroke) (before now : Progress) (count : ℕ) : Type 0 where
   pub calls : List Call
   pub lines : List Line
   pub journal : now.journal ≡ before.journal ++ entries_by who calls
   pub point : now.point ≡ after before.point (entries_by who calls)
   pub text : now.text ≡ before.text ++ flat_map line_text lines
-  pub handles : Handles ground now.journal who keys count lines
-  pub whole : now.refused ≡ false → count ≡ length keys
+  pub handles : Handles basis now.journal who keys count lines
 
--- a context handled so many of its keys
-pub record Ran (ground : Ground) (who : ℕ) (keys : List KeyStroke) (before now : Progress) (count : ℕ) : Type 0 where
+-- a context ended so, and its lines were taken away
+pub record Ran (basis : Basis) (who : ℕ) (keys : List KeyStroke) (before now : Progress) (end : ContextEnd) : Type 0 where
   pub calls : List Call
   pub lines : List Line
   pub journal : now.journal ≡ before.journal ++ entries_by who calls
   pub point : now.point ≡ after before.point (entries_by who calls)
-  pub handles : Handles ground now.journal who keys count lines
-  pub front : IsFront now.text (before.text ++ context_text who lines)
-  pub whole : now.refused ≡ false → (before.refused ≡ false) × (now.text ≡ before.text ++ context_text who lines) × (count ≡ length keys)
-  pub stopped : before.refused ≡ true → now.text ≡ before.text
+  pub silent : now.text ≡ []
+  pub handles : Handles basis now.journal who keys end.handled lines
+  pub shown : end.text ≡ flat_map line_text lines
 
--- each of these contexts, from number 1 on, handled so many of its keys
-pub record RanAll (ground : Ground) (contexts : List (List KeyStroke)) (now : Progress) (counts : List ℕ) : Type 0 where
+-- each of these contexts, from number 1 on, ended so
+pub record RanAll (basis : Basis) (contexts : List (List KeyStroke)) (now : Progress) (ends : List ContextEnd) : Type 0 where
   pub lines : List (List Line)
-  pub all : HandleAll ground now.journal 1 contexts counts lines
-  pub point : now.point ≡ after ground.start now.journal
+  pub all : HandleAll basis now.journal 1 contexts (map (λ end. end.handled) ends) lines
+  pub shown : map (λ end. end.text) ends ≡ map (flat_map line_text) lines
+  pub point : now.point ≡ after basis.start now.journal
   pub numbers : All (IsOfContext (length contexts)) now.journal
-  pub front : IsFront now.text (output lines)
-  pub whole : now.refused ≡ false → (now.text ≡ output lines) × (counts ≡ map length contexts)
-  pub silent : contexts ≡ [] → (now.journal ≡ []) × (now.refused ≡ false)
+  pub silent : now.text ≡ []

@@ -1,8 +1,14 @@
 -- The refusals and outcomes of the definitions that the code's stand for.
 use Rattle.std.specs.Prelude.{Result, Ok, Err}
-use Rattle.chew_spec_text.specs.Output as spec
-use Rattle.chew_rows.specs.Told as row
+use Rattle.chew_spec_program.specs.Refusal as spec
+use Rattle.chew_outside.specs.declared.source.ReadFault.{ReadFault}
+use Rattle.chew_outside.specs.declared.source.ReadFault.TheVariants as read
+use Rattle.chew_rows.specs.Faults as row
+use Rattle.chew_rows.specs.declared.cause.RowsFault.{RowsFault}
+use Rattle.chew_rows.specs.declared.cause.RowsFault.TheVariants as rows
 use Rattle.chew_script.specs.Faults as script
+use Rattle.chew_script.specs.declared.fault.ScriptFault.{ScriptFault}
+use Rattle.chew_script.specs.declared.fault.ScriptFault.TheVariants as said
 use Rattle.chewing_cli.specs.declared.refusal.Refusal.{Refusal}
 use Rattle.chewing_cli.specs.declared.refusal.Refusal.TheVariants.{WrongWords, WrongSystem, WrongScript, SourceFailed, NoMemory}
 
@@ -12,6 +18,19 @@ kind_of (WrongSystem line cause) = spec.WrongSystem (record { line = line; cause
 kind_of (WrongScript line cause) = spec.WrongScript (record { line = line; cause = script.cause_of cause })
 kind_of SourceFailed = spec.SourceFailed
 kind_of NoMemory = spec.NoMemory
+
+-- the refusals that the faults of the readers make: none of an input is told as want of memory
+abbrev pub read_refusal : ReadFault → spec.Refusal
+read_refusal read.Failed = spec.SourceFailed
+read_refusal read.NoMemory = spec.NoMemory
+
+abbrev pub system_refusal : RowsFault → spec.Refusal
+system_refusal (rows.Bad line cause) = spec.WrongSystem (record { line = line; cause = row.cause_of cause })
+system_refusal rows.NoMemory = spec.NoMemory
+
+abbrev pub script_refusal : ScriptFault → spec.Refusal
+script_refusal (said.Bad line cause) = spec.WrongScript (record { line = line; cause = script.cause_of cause })
+script_refusal said.NoMemory = spec.NoMemory
 
 -- an outcome, with its value seen this way
 abbrev pub outcome_of : {X Y : Type 0} → (X → Y) → Result X Refusal → Result Y spec.Refusal

@@ -1,5 +1,5 @@
 ghost use Rattle.std.specs.Prelude.{◌≡◌, map};
-ghost use Rattle.chew_spec_text.specs.Command.{is_name, is_run_command};
+ghost use Rattle.chew_spec_program.specs.Command.{is_name, is_run_command};
 
 /// Whether the words are `run SYSTEM SCRIPT FOLDER`.
 pub fn is_run(words: &[&str]) -> bool

@@ -1,8 +1,7 @@
-ghost use Rattle.std.specs.Prelude.{◌≡◌, ◌++◌, ◌≤◌, IfOk, OnErr, length, map};
-ghost use Rattle.chew_spec_text.specs.Output.{header};
-ghost use Rattle.chewing_cli.specs.Done.{progress_of};
+ghost use Rattle.std.specs.Prelude.{◌≡◌, ◌≤◌, [], length};
+ghost use Rattle.chew_spec_dictionary.specs.History.{Point};
 ghost use Rattle.chew_script.specs.Keys.{keys_of};
-ghost use Rattle.chewing_cli.specs.Progress.{Handled, IsFresh, Ran, ground_of};
+ghost use Rattle.chewing_cli.specs.Progress.{Handled, IsFresh, Ran, basis_over};
 
 use crate::keying::handle_key;
 use crate::work::Work;
@@ -11,58 +10,57 @@ use chew_plain::RowMap;
 use chew_script::KeyStroke;
 use chew_syllable::NoMemory;
 use std::alloc::Global;
+use std::marker::Model;
 
-/// Handles the keys of a context, until memory is refused, and answers how many it handled.
+/// How a context ended.
+#[derive(Drop)]
+pub(crate) struct ContextEnd {
+    /// How many of its keys were handled.
+    pub(crate) handled: u32,
+    /// The lines of these keys, as they are printed.
+    pub(crate) text: Vec<u8>,
+}
+
+impl Model for ContextEnd {
+    ghost use Rattle.chewing_cli.specs.Progress as spec;
+
+    ghost Value = { spec.ContextEnd };
+
+    ghost view = { λ end. record { handled = end.handled; text = end.text.items } };
+}
+
+/// Handles the keys of a context, until memory is refused.
 pub(crate) fn run_context(
     alloc: Global,
     system: &RowMap,
     work: &mut Work,
     who: u32,
     keys: &[KeyStroke],
-) -> u32
+) -> ContextEnd
     requires few { length keys.now ≤ 65_536 }
-    requires fresh { IsFresh (ground_of system.now) who (progress_of work.old) }
-    ensures ran { Ran (ground_of system.now) who (keys_of keys.now) (progress_of work.old) (progress_of work.new) result }
+    requires silent { work.old.text ≡ [] }
+    ensures ran { (start : Point) → IsFresh start who work.old → Ran (basis_over system.now start) who (keys_of keys.now) work.old work.new result }
 {
-    if work.refused {
-        return 0;
-    }
-    match push_header(alloc, &mut work.text, who) {
-        Ok(()) => handle_keys(alloc, system, work, who, keys),
-        Err(NoMemory) => {
-            work.refused = true;
-            0
-        }
+    let handled = handle_keys(alloc, system, work, who, keys);
+    ContextEnd {
+        handled,
+        text: work.take_text(alloc),
     }
 }
 
-/// Handles keys behind the header.
+/// Handles keys, until memory is refused, and answers how many it handled.
 fn handle_keys(alloc: Global, system: &RowMap, work: &mut Work, who: u32, keys: &[KeyStroke]) -> u32
     requires few { length keys.now ≤ 65_536 }
-    requires fresh { IsFresh (ground_of system.now) who (progress_of work.old) }
-    ensures handled { Handled (ground_of system.now) who (keys_of keys.now) (progress_of work.old) (progress_of work.new) result }
+    ensures handled { (start : Point) → IsFresh start who work.old → Handled (basis_over system.now start) who (keys_of keys.now) work.old work.new result }
 {
     let mut editor = Editor::new(alloc, &Settings::standard());
     let mut count = 0;
     for key in keys {
         match handle_key(alloc, system, work, who, editor, *key) {
             Ok(next) => editor = next,
-            Err(NoMemory) => {
-                work.refused = true;
-                return count;
-            }
+            Err(NoMemory) => return count,
         }
         count += 1;
     }
     count
-}
-
-/// Appends the line before a context's lines, whole or not at all.
-fn push_header(alloc: Global, text: &mut Vec<u8>, who: u32) -> Result<(), NoMemory>
-    ensures ok { IfOk result (λ _. text.new.items ≡ text.old.items ++ header who) }
-    ensures err { OnErr result (text.new.items ≡ text.old.items) }
-{
-    let header = format!(in alloc; "context {who}\n")?;
-    text.extend_from_slice(header.as_bytes())?;
-    Ok(())
 }

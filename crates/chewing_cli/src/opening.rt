@@ -1,72 +1,75 @@
-ghost use Rattle.std.specs.Prelude.{◌≡◌, ◌≤◌, All, Err, IfOk, Some, false, length, map};
-ghost use Rattle.chew_spec_text.specs.Command.{is_run_command};
+ghost use Rattle.std.specs.Prelude.{◌≡◌, ◌≤◌, All, IfOk, Some, length, map};
 ghost use Rattle.chew_spec_text.specs.DictionaryText.{system_limit};
-ghost use Rattle.chew_spec_text.specs.Output as spec;
-ghost use Rattle.chew_spec_text.specs.Run.{value_or_refusal};
 ghost use Rattle.chew_spec_text.specs.Script.{script_limit, script_of};
-ghost use Rattle.chewing_cli.specs.Opens.{IsOrNoMemory, Opens, Reads, inputs_as, system_rows, watched};
+ghost use Rattle.chew_spec_program.specs.Opening.{IsOpening, value_or_refusal};
+ghost use Rattle.chew_spec_program.specs.Reading.{watched};
+ghost use Rattle.chew_spec_program.specs.Refusal as spec;
+ghost use Rattle.chewing_cli.specs.Opens.{IsOrNoMemory, ReadsOrNoMemory, inputs_of, system_rows};
 ghost use Rattle.chewing_cli.specs.Refusals.{outcome_of};
 
 use crate::command::is_run;
 use crate::refusal::Refusal;
-use chew_outside::{ReadFault, Source, read_up_to};
-use chew_plain::RowMap;
-use chew_rows::{RowsFault, read_rows};
-use chew_script::{Script, ScriptFault, read_script};
+use chew_outside::{Source, read_up_to};
+use chew_plain::{Plain, RowMap};
+use chew_rows::{SYSTEM_LIMIT, read_rows};
+use chew_script::{SCRIPT_LIMIT, Script, read_script};
 use std::alloc::Global;
 
-/// The most bytes of a system dictionary, 64 MiB.
-const SYSTEM_LIMIT: usize = 67_108_864;
-
-/// The most bytes of a script, 1 MiB.
-const SCRIPT_LIMIT: usize = 1_048_576;
+/// The most pairs of a user's dictionary.
+const CAP: u32 = 65_536;
 
 /// What a run works on.
 #[derive(Drop)]
-pub(crate) struct Inputs {
+pub(crate) struct Opened {
     pub(crate) system: RowMap,
     pub(crate) script: Script,
+    /// The user's dictionary, as the run begins.
+    pub(crate) plain: Plain,
 }
 
-/// Reads the inputs: the words come first, then the system, then the script.
+/// Opens a run: the words come first, then the system, then the script.
 pub(crate) fn open<I: Source, Y: Source>(
     alloc: Global,
     words: &[&str],
     system: &mut Y,
     script: &mut I,
-) -> Result<Inputs, Refusal>
-    ensures opens { Opens (map (λ word. word.now) words.now)
+) -> Result<Opened, Refusal>
+    ensures opens { IsOpening (map (λ word. word.now) words.now)
         (watched (Y.left system.old) (Y.left system.new) (Y.faults system.old) (Y.faults system.new))
         (watched (I.left script.old) (I.left script.new) (I.faults script.old) (I.faults script.new))
-        (outcome_of inputs_as result) }
-    ensures words { is_run_command (map (λ word. word.now) words.now) ≡ false → outcome_of inputs_as result ≡ Err spec.WrongWords }
-    ensures few_contexts { IfOk result (λ inputs. length inputs.script.contexts ≤ 16) }
-    ensures few_keys { IfOk result (λ inputs. All (λ keys. length keys ≤ 65_536) inputs.script.contexts) }
+        (outcome_of inputs_of result) }
+    ensures few_contexts { IfOk result (λ opened. length opened.script.contexts ≤ 16) }
+    ensures few_keys { IfOk result (λ opened. All (λ keys. length keys ≤ 65_536) opened.script.contexts) }
 {
     if !is_run(words) {
         return Err(Refusal::WrongWords);
     }
-    let rows = match open_system(alloc, system) {
+    let system = match open_system(alloc, system) {
         Ok(rows) => rows,
         Err(refusal) => return Err(refusal),
     };
-    match open_script(alloc, script) {
-        Ok(script) => Ok(Inputs {
-            system: rows,
+    let script = match open_script(alloc, script) {
+        Ok(script) => script,
+        Err(refusal) => return Err(refusal),
+    };
+    match Plain::of(Vec::new(alloc), 0, CAP) {
+        Ok(plain) => Ok(Opened {
+            system,
             script,
+            plain,
         }),
-        Err(refusal) => Err(refusal),
+        Err(_) => Err(Refusal::NoMemory),
     }
 }
 
 /// Reads the system.
 fn open_system<Y: Source>(alloc: Global, source: &mut Y) -> Result<RowMap, Refusal>
-    ensures { Reads system_rows spec.WrongSystem system_limit (watched (Y.left source.old) (Y.left source.new) (Y.faults source.old) (Y.faults source.new)) (outcome_of (λ rows. rows) result) }
+    ensures { ReadsOrNoMemory system_rows spec.WrongSystem system_limit
+        (watched (Y.left source.old) (Y.left source.new) (Y.faults source.old) (Y.faults source.new)) (outcome_of (λ rows. rows) result) }
 {
     match read_up_to(alloc, source, SYSTEM_LIMIT) {
         Ok(text) => system_of(alloc, text.as_slice()),
-        Err(ReadFault::Failed) => Err(Refusal::SourceFailed),
-        Err(ReadFault::NoMemory) => Err(Refusal::NoMemory),
+        Err(fault) => Err(Refusal::of_read(fault)),
     }
 }
 
@@ -79,21 +82,20 @@ fn system_of(alloc: Global, text: &[u8]) -> Result<RowMap, Refusal>
             Ok(map) => Ok(map),
             Err(_) => Err(Refusal::NoMemory),
         },
-        Err(RowsFault::Bad { line, cause }) => Err(Refusal::WrongSystem { line, cause }),
-        Err(RowsFault::NoMemory) => Err(Refusal::NoMemory),
+        Err(fault) => Err(Refusal::of_system(fault)),
     }
 }
 
 /// Reads the script.
 fn open_script<I: Source>(alloc: Global, source: &mut I) -> Result<Script, Refusal>
-    ensures reads { Reads script_of spec.WrongScript script_limit (watched (I.left source.old) (I.left source.new) (I.faults source.old) (I.faults source.new)) (outcome_of (λ script. script) result) }
+    ensures reads { ReadsOrNoMemory script_of spec.WrongScript script_limit
+        (watched (I.left source.old) (I.left source.new) (I.faults source.old) (I.faults source.new)) (outcome_of (λ script. script) result) }
     ensures few_contexts { IfOk result (λ script. length script.contexts ≤ 16) }
     ensures few_keys { IfOk result (λ script. All (λ keys. length keys ≤ 65_536) script.contexts) }
 {
     match read_up_to(alloc, source, SCRIPT_LIMIT) {
         Ok(text) => script_in(alloc, text.as_slice()),
-        Err(ReadFault::Failed) => Err(Refusal::SourceFailed),
-        Err(ReadFault::NoMemory) => Err(Refusal::NoMemory),
+        Err(fault) => Err(Refusal::of_read(fault)),
     }
 }
 
@@ -105,7 +107,6 @@ fn script_in(alloc: Global, text: &[u8]) -> Result<Script, Refusal>
 {
     match read_script(alloc, text) {
         Ok(script) => Ok(script),
-        Err(ScriptFault::Bad { line, cause }) => Err(Refusal::WrongScript { line, cause }),
-        Err(ScriptFault::NoMemory) => Err(Refusal::NoMemory),
+        Err(fault) => Err(Refusal::of_script(fault)),
     }
 }

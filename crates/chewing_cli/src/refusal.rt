@@ -1,13 +1,14 @@
 ghost use Rattle.std.specs.Prelude.{◌≡◌, ◌≤◌, length};
 ghost use Rattle.chew_spec_text.specs.Line.{with_line_feed};
-ghost use Rattle.chew_spec_text.specs.Output.{fault_line, refusal_line, refusal_status, row_cause_word, script_cause_word};
-ghost use Rattle.chew_rows.specs.Told as row;
+ghost use Rattle.chew_spec_program.specs.Refusal.{fault_line, refusal_line, refusal_status, row_cause_word, script_cause_word};
+ghost use Rattle.chew_rows.specs.Faults as row;
 ghost use Rattle.chew_script.specs.Faults as script;
-ghost use Rattle.chewing_cli.specs.Refusals.{kind_of};
+ghost use Rattle.chewing_cli.specs.Refusals.{kind_of, read_refusal, script_refusal, system_refusal};
 
 use arrayvec::ArrayString;
-use chew_rows::RowCause;
-use chew_script::ScriptCause;
+use chew_outside::ReadFault;
+use chew_rows::{RowCause, RowsFault};
+use chew_script::{ScriptCause, ScriptFault};
 use itoa::Buffer;
 
 /// Why a run is refused before its first key.
@@ -26,6 +27,36 @@ pub(crate) enum Refusal {
 }
 
 impl Refusal {
+    /// Why a text that wasn't read refuses the run.
+    pub(crate) fn of_read(fault: ReadFault) -> Refusal
+        ensures { kind_of result ≡ read_refusal fault }
+    {
+        match fault {
+            ReadFault::Failed => Refusal::SourceFailed,
+            ReadFault::NoMemory => Refusal::NoMemory,
+        }
+    }
+
+    /// Why a system's text refuses the run.
+    pub(crate) fn of_system(fault: RowsFault) -> Refusal
+        ensures { kind_of result ≡ system_refusal fault }
+    {
+        match fault {
+            RowsFault::Bad { line, cause } => Refusal::WrongSystem { line, cause },
+            RowsFault::NoMemory => Refusal::NoMemory,
+        }
+    }
+
+    /// Why a script's text refuses the run.
+    pub(crate) fn of_script(fault: ScriptFault) -> Refusal
+        ensures { kind_of result ≡ script_refusal fault }
+    {
+        match fault {
+            ScriptFault::Bad { line, cause } => Refusal::WrongScript { line, cause },
+            ScriptFault::NoMemory => Refusal::NoMemory,
+        }
+    }
+
     /// The status of the run.
     pub(crate) fn status(self) -> u8
         ensures { result ≡ refusal_status (kind_of self) }

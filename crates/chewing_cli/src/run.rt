@@ -1,89 +1,125 @@
-ghost use Rattle.std.specs.Prelude.{◌≡◌, ◌≤◌, All, [], false, length, map, if◌then◌else◌};
-ghost use Rattle.chewing_cli.specs.Done.{ended_of, progress_of};
+ghost use Rattle.std.specs.Prelude.{◌≡◌, ◌≤◌, All, IfOk, [], length, map, vec_capacity};
+ghost use Rattle.chew_spec_editor.specs.Sound.{AreRows};
+ghost use Rattle.chew_spec_program.specs.Run.{are_handled, talk_status};
+ghost use Rattle.chew_spec_program.specs.Writing.{sunk};
 ghost use Rattle.chew_script.specs.Keys.{lists_of};
-ghost use Rattle.chewing_cli.specs.Opens.{inputs_as};
-ghost use Rattle.chewing_cli.specs.Progress.{RanAll, ground_of};
+ghost use Rattle.chewing_cli.specs.Done.{ended_of};
+ghost use Rattle.chewing_cli.specs.Opens.{inputs_of};
+ghost use Rattle.chewing_cli.specs.Progress.{RanAll, basis_over};
 ghost use Rattle.chewing_cli.specs.Runs.{Runs};
 
-use crate::context::run_context;
+use crate::context::{ContextEnd, run_context};
 use crate::done::Done;
-use crate::opening::Inputs;
+use crate::opening::Opened;
 use crate::refusal::Refusal;
-use crate::sending::{refuse, send};
+use crate::sending::{refuse, send_contexts};
 use crate::work::Work;
 use arrayvec::ArrayVec;
 use chew_outside::Sink;
-use chew_plain::{Plain, RowMap};
+use chew_plain::RowMap;
 use chew_script::KeyStroke;
+use chew_syllable::NoMemory;
 use std::alloc::Global;
 
-/// The most pairs of a user's dictionary.
-const CAP: u32 = 65_536;
-
 /// Handles the keys of all contexts, and writes their lines.
-pub(crate) fn run<O: Sink>(alloc: Global, inputs: &Inputs, sink: &mut O) -> Done
-    requires few_contexts { length inputs.now.script.contexts ≤ 16 }
-    requires few_keys { All (λ keys. length keys ≤ 65_536) inputs.now.script.contexts }
-    ensures { Runs (inputs_as inputs.now) (ground_of inputs.now.system).settings (ground_of inputs.now.system).start
-        (record { before = O.taken sink.old; now = O.taken sink.new; faults_before = O.faults sink.old; faults_now = O.faults sink.new }) (ended_of result) }
+pub(crate) fn run<O: Sink>(alloc: Global, opened: Opened, sink: &mut O) -> Done
+    requires few_contexts { length opened.script.contexts ≤ 16 }
+    requires few_keys { All (λ keys. length keys ≤ 65_536) opened.script.contexts }
+    requires rows { AreRows opened.system }
+    ensures { Runs (inputs_of opened) (sunk (O.taken sink.old) (O.taken sink.new) (O.faults sink.old) (O.faults sink.new)) (ended_of result) }
 {
-    let mut work = match Plain::of(Vec::new(alloc), 0, CAP) {
-        Ok(plain) => Work {
-            plain,
-            journal: Vec::new(alloc),
-            text: Vec::new(alloc),
-            refused: false,
-        },
-        Err(_) => return refuse(alloc, Refusal::NoMemory, sink),
+    let Opened {
+        system,
+        script,
+        plain,
+    } = opened;
+    let contexts = script.contexts.lists();
+    let mut ends = match room_for(alloc, contexts.len()) {
+        Ok(ends) => ends,
+        Err(NoMemory) => return refuse(alloc, Refusal::NoMemory, sink),
     };
-    let handled = run_contexts(
-        alloc,
-        &inputs.system,
-        &mut work,
-        inputs.script.contexts.lists(),
-    );
-    if work.refused && work.text.is_empty() {
-        return refuse(alloc, Refusal::NoMemory, sink);
-    }
-    let taken = send(sink, work.text.as_slice());
+    let mut work = Work::new(alloc, plain);
+    run_contexts(alloc, &system, &mut work, contexts, &mut ends);
+    let failed = send_contexts(sink, 1, ends.as_slice()).is_err();
     Done {
-        status: status_of(taken, work.refused),
-        journal: work.journal,
-        handled,
+        status: status_of(failed, are_handled(contexts, ends.as_slice())),
+        journal: work.into_journal(),
+        handled: counts_of(ends.as_slice()),
     }
 }
 
-/// The status of a run whose sink took all or not, and which was refused memory or not.
-fn status_of(taken: bool, refused: bool) -> u8
-    ensures { result ≡ if taken then (if refused then 10 else 0) else 8 }
+/// A list with room for the ends of so many contexts.
+fn room_for(alloc: Global, contexts: usize) -> Result<Vec<ContextEnd>, NoMemory>
+    ensures none { IfOk result (λ ends. ends.items ≡ []) }
+    ensures room { IfOk result (λ ends. contexts ≤ vec_capacity ends) }
 {
-    if !taken {
-        8
-    } else if refused {
-        10
-    } else {
-        0
-    }
+    let mut ends = Vec::new(alloc);
+    ends.reserve(contexts)?;
+    Ok(ends)
 }
 
-/// Runs the contexts one after another, numbered from 1, and answers how many keys each handled.
+/// Runs the contexts one after another, numbered from 1, each until memory is refused to it.
 fn run_contexts(
     alloc: Global,
     system: &RowMap,
     work: &mut Work,
     contexts: &[Vec<KeyStroke>],
-) -> ArrayVec<u32, 16>
+    ends: &mut Vec<ContextEnd>,
+)
     requires few_contexts { length contexts.now ≤ 16 }
     requires few_keys { All (λ keys. length keys ≤ 65_536) (lists_of contexts.now) }
-    requires begins { progress_of work.old ≡ record { journal = []; point = (ground_of system.now).start; text = []; refused = false } }
-    ensures all { RanAll (ground_of system.now) (lists_of contexts.now) (progress_of work.new) result.items }
-    ensures each { length result.items ≡ length contexts.now }
+    requires none { ends.old.items ≡ [] }
+    requires room { length contexts.now ≤ vec_capacity ends.old }
+    requires begins { work.old ≡ record { journal = []; point = work.old.point; text = [] } }
+    ensures all { RanAll (basis_over system.now work.old.point) (lists_of contexts.now) work.new ends.new.items }
+    ensures each { length ends.new.items ≡ length contexts.now }
 {
-    let mut handled = ArrayVec::new();
     let mut who = 0;
     for keys in contexts {
         who += 1;
-        handled.push(run_context(alloc, system, work, who, keys.as_slice()));
+        ends.push_reserved(run_context(alloc, system, work, who, keys.as_slice()));
     }
-    handled
+}
+
+/// Whether all keys of these contexts were handled.
+fn are_handled(contexts: &[Vec<KeyStroke>], ends: &[ContextEnd]) -> bool
+    ensures { result ≡ are_handled (lists_of contexts.now) (map (λ end. end.handled) ends.now) }
+{
+    match contexts {
+        [] => ends.is_empty(),
+        [keys, others @ ..] => match ends {
+            [] => false,
+            [end, rest @ ..] => {
+                if end.handled as usize != keys.len() {
+                    return false;
+                }
+                are_handled(others, rest)
+            }
+        },
+    }
+}
+
+/// How many keys each context handled.
+fn counts_of(ends: &[ContextEnd]) -> ArrayVec<u32, 16>
+    requires { length ends.now ≤ 16 }
+    ensures { result.items ≡ map (λ end. end.handled) ends.now }
+{
+    let mut counts = ArrayVec::new();
+    for end in ends {
+        counts.push(end.handled);
+    }
+    counts
+}
+
+/// The status of a run whose sink failed or not, and of whose keys all were handled or not.
+fn status_of(failed: bool, all_handled: bool) -> u8
+    ensures { result ≡ talk_status failed all_handled }
+{
+    if failed {
+        8
+    } else if all_handled {
+        0
+    } else {
+        10
+    }
 }

@@ -3,12 +3,11 @@ use Rattle.std.proofs.Common.{◌≡◌, ◌+◌, ◌<◌, ◌≤◌, ◌∙◌,
 use Rattle.std.proofs.lemmas.List.{get_or-map, length-map, take_more}
 use Rattle.std.proofs.lemmas.List.Elements.{All-nil}
 use Rattle.chew_spec_dictionary.specs.System.{has_single}
-use Rattle.chew_spec_editor.specs.Editor.{Configured, Editor, Settings, empty_editor}
+use Rattle.chew_spec_editor.specs.Editor.{Configured, Editor, empty_editor}
+use Rattle.chew_spec_editor.specs.Settings.{Settings, standard_settings}
 use Rattle.chew_spec_text.specs.KeyStroke as spec
-use Rattle.chew_script.specs.Keys.{key_of}
-use Rattle.chewing_cli.specs.Done.{progress_of}
-use Rattle.chew_script.specs.Keys.{keys_of}
-use Rattle.chewing_cli.specs.Progress.{Handled, Stops, Talks, Turns, ground_of}
+use Rattle.chew_script.specs.Keys.{key_of, keys_of}
+use Rattle.chewing_cli.specs.Progress.{Handled, Stops, Talks, Turns, basis_over}
 use Rattle.chewing_cli.proofs.Talking.{handled_all, handled_stopped, talks_more, talks_none}
 use Rattle.chew_script.specs.declared.keystroke.KeyStroke.{KeyStroke}
 use Rattle.chew_script.specs.declared.keystroke.KeyStroke.TheVariants.{Char}
@@ -16,11 +15,11 @@ use Rattle.chewing_cli.proofs.context.handle_keys.Goals as goal
 
 pub loop-key-init : goal.loop-key-init
 loop-key-init c =
-    let empty : c.new-editor.result.editor ≡ empty_editor (ground_of c.args.system.now).settings =
+    let empty : c.new-editor.result.editor ≡ empty_editor standard_settings =
     ap (λ (e : Configured). e.editor) c.new-editor.ensures ∙ ap empty_editor c.standard.ensures in
     record {
-      talks = subst (λ (e : Editor). Talks c.args.system.now (ground_of c.args.system.now).settings c.args.who (take 0 (keys_of c.args.keys.now)) (progress_of c.args.work.now) (progress_of c.args.work.now) e)
-          (sym empty) (talks_none c.args.system.now (ground_of c.args.system.now).settings c.args.who (progress_of c.args.work.now));
+      talks = subst (λ (e : Editor). Talks c.args.system.now standard_settings c.args.who (take 0 (keys_of c.args.keys.now)) c.args.work.now c.args.work.now e)
+          (sym empty) (talks_none c.args.system.now standard_settings c.args.who c.args.work.now);
       singles = subst (λ (e : Editor). All (λ code. has_single c.args.system.now code ≡ true) e.cells) (sym empty) (All-nil (λ code. has_single c.args.system.now code ≡ true));
       settings = ap (λ (e : Configured). e.settings) c.new-editor.ensures ∙ c.standard.ensures;
       counted = refl;
@@ -35,13 +34,12 @@ loop-key-preserved c =
     let in_code : i < length c.args.keys.now = omega arith in
     let longer : take i keys ++ (key_of key ∷ []) ≡ take (i + 1) keys =
     ap (λ (k : spec.KeyStroke). take i keys ++ (k ∷ [])) (sym (get_or-map key_of c.args.keys.now i (Char 0) (key_of key) in_code)) ∙ sym (take_more keys i (key_of key) inside) in
-    let settings : Settings = (ground_of c.args.system.now).settings in
-    let turns : Turns c.args.system.now settings c.args.who (key_of key) c.loop-key.editor.editor (progress_of c.loop-key.work) (progress_of c.handle_key.new.work) c.in-Ok.next.editor =
-    subst (λ (s : Settings). Turns c.args.system.now s c.args.who (key_of key) c.loop-key.editor.editor (progress_of c.loop-key.work) (progress_of c.handle_key.new.work) c.in-Ok.next.editor)
+    let turns : Turns c.args.system.now standard_settings c.args.who (key_of key) c.loop-key.editor.editor c.loop-key.work c.handle_key.new.work c.in-Ok.next.editor =
+    subst (λ (s : Settings). Turns c.args.system.now s c.args.who (key_of key) c.loop-key.editor.editor c.loop-key.work c.handle_key.new.work c.in-Ok.next.editor)
     c.loop-key.invariant.settings c.in-Ok.ensures.ok in
     record {
-      talks = subst (λ (l : List spec.KeyStroke). Talks c.args.system.now settings c.args.who l (progress_of c.args.work.now) (progress_of c.handle_key.new.work) c.in-Ok.next.editor) longer
-          (talks_more c.args.system.now settings c.args.who (take i keys) (key_of key) (progress_of c.args.work.now) (progress_of c.loop-key.work) (progress_of c.handle_key.new.work)
+      talks = subst (λ (l : List spec.KeyStroke). Talks c.args.system.now standard_settings c.args.who l c.args.work.now c.handle_key.new.work c.in-Ok.next.editor) longer
+          (talks_more c.args.system.now standard_settings c.args.who (take i keys) (key_of key) c.args.work.now c.loop-key.work c.handle_key.new.work
           c.loop-key.editor.editor c.in-Ok.next.editor c.loop-key.invariant.talks turns);
       singles = c.in-Ok.ensures.singles;
       settings = c.in-Ok.ensures.settings ∙ c.loop-key.invariant.settings;
@@ -50,12 +48,12 @@ loop-key-preserved c =
 
 pub returns : goal.returns
 returns c =
-    let few : length (keys_of c.args.keys.now) ≤ c.loop-key.key-index = rw length-map (omega arith) in
     let within : c.loop-key.key-index ≤ length (keys_of c.args.keys.now) = rw length-map (omega arith) in
     record {
-      handled = subst (Handled (ground_of c.args.system.now) c.args.who (keys_of c.args.keys.now) (progress_of c.args.work.now) (progress_of c.loop-key.work)) (sym c.loop-key.invariant.counted)
-          (handled_all (ground_of c.args.system.now) c.args.who (keys_of c.args.keys.now) c.loop-key.key-index (progress_of c.args.work.now) (progress_of c.loop-key.work)
-          c.loop-key.editor.editor c.requires.fresh few within c.loop-key.invariant.talks);
+      handled = λ start fresh.
+          subst (Handled (basis_over c.args.system.now start) c.args.who (keys_of c.args.keys.now) c.args.work.now c.loop-key.work) (sym c.loop-key.invariant.counted)
+          (handled_all (basis_over c.args.system.now start) c.args.who (keys_of c.args.keys.now) c.loop-key.key-index c.args.work.now c.loop-key.work
+          c.loop-key.editor.editor fresh within c.loop-key.invariant.talks);
     }
 
 pub returns-in-Err : goal.returns-in-Err
@@ -66,12 +64,12 @@ returns-in-Err c =
     let inside : i < length keys = rw length-map (omega arith) in
     let in_code : i < length c.args.keys.now = omega arith in
     let is : key_of key ≡ get_or keys i (key_of key) = sym (get_or-map key_of c.args.keys.now i (Char 0) (key_of key) in_code) in
-    let settings : Settings = (ground_of c.args.system.now).settings in
-    let stops : Stops c.args.system.now settings c.args.who (key_of key) c.loop-key.editor.editor (progress_of c.loop-key.work) (progress_of c.handle_key.new.work) =
-    subst (λ (s : Settings). Stops c.args.system.now s c.args.who (key_of key) c.loop-key.editor.editor (progress_of c.loop-key.work) (progress_of c.handle_key.new.work))
+    let stops : Stops c.args.system.now standard_settings c.args.who (key_of key) c.loop-key.editor.editor c.loop-key.work c.handle_key.new.work =
+    subst (λ (s : Settings). Stops c.args.system.now s c.args.who (key_of key) c.loop-key.editor.editor c.loop-key.work c.handle_key.new.work)
     c.loop-key.invariant.settings c.in-Err.ensures.err in
     record {
-      handled = subst (Handled (ground_of c.args.system.now) c.args.who keys (progress_of c.args.work.now) (record (progress_of c.handle_key.new.work) { refused = true })) (sym c.loop-key.invariant.counted)
-          (handled_stopped (ground_of c.args.system.now) c.args.who keys i (key_of key) (progress_of c.args.work.now) (progress_of c.loop-key.work) (progress_of c.handle_key.new.work)
-          (record (progress_of c.handle_key.new.work) { refused = true }) c.loop-key.editor.editor c.requires.fresh inside is c.loop-key.invariant.talks stops refl);
+      handled = λ start fresh.
+          subst (Handled (basis_over c.args.system.now start) c.args.who keys c.args.work.now c.handle_key.new.work) (sym c.loop-key.invariant.counted)
+          (handled_stopped (basis_over c.args.system.now start) c.args.who keys i (key_of key) c.args.work.now c.loop-key.work c.handle_key.new.work
+          c.loop-key.editor.editor fresh inside is c.loop-key.invariant.talks stops);
     }

@@ -1,13 +1,11 @@
 -- The text that was read is the script's.
-use Rattle.std.proofs.Common.{Err, ℕ, List, Some, ap, refl, subst}
-use Rattle.chew_spec_text.specs.Output.{WrongScript}
-use Rattle.chew_spec_text.specs.Run.{value_or_refusal}
+use Rattle.std.proofs.Common.{ℕ, List, Some, refl, subst}
+use Rattle.chew_spec_program.specs.Opening.{value_or_refusal}
+use Rattle.chew_spec_program.specs.Refusal.{WrongScript}
 use Rattle.chew_spec_text.specs.Script.{Script, script_limit, script_of}
-use Rattle.std.specs.Global.{Vec}
-use Rattle.chew_outside.specs.ReadFault.{source_failed}
 use Rattle.chewing_cli.specs.Opens.{IsOrNoMemory}
 use Rattle.chewing_cli.specs.Refusals.{outcome_of}
-use Rattle.chewing_cli.proofs.Reading.{reads_failed, reads_refused, reads_text}
+use Rattle.chewing_cli.proofs.Reading.{reads_text}
 use Rattle.chewing_cli.proofs.opening.open_script.Goals as goal
 
 pub returns-in-Ok-clause-reads : goal.returns-in-Ok-clause-reads
@@ -16,10 +14,3 @@ returns-in-Ok-clause-reads g c =
     (g.I.Source.faults c.read_up_to.new.source) c.in-Ok.text.items (outcome_of (λ (script : Script). script) c.script_in.result) c.in-Ok.ensures.ok (c.in-Ok.ensures.cause.same refl)
     (subst (λ (text : List ℕ). IsOrNoMemory (value_or_refusal script_of WrongScript (Some text)) (outcome_of (λ (script : Script). script) c.script_in.result))
     c.as_slice.ensures.value c.script_in.ensures.gives)
-
-pub returns-in-Err-NoMemory-clause-reads : goal.returns-in-Err-NoMemory-clause-reads
-returns-in-Err-NoMemory-clause-reads g c = reads_refused script_of WrongScript script_limit _
-
-pub returns-in-Err-Failed-clause-reads : goal.returns-in-Err-Failed-clause-reads
-returns-in-Err-Failed-clause-reads g c =
-    reads_failed script_of WrongScript script_limit _ _ _ _ _ c.in-Err-Failed.ensures.cause (ap (λ fault. source_failed {T = Vec ℕ} (Err fault)) c.in-Err-Failed.field-0-is)

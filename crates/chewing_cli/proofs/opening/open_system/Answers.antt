@@ -1,14 +1,12 @@
 -- The text that was read is the system's.
-use Rattle.std.proofs.Common.{Err, ℕ, List, Some, ap, refl, subst}
+use Rattle.std.proofs.Common.{ℕ, List, Some, refl, subst}
+use Rattle.chew_spec_program.specs.Opening.{value_or_refusal}
+use Rattle.chew_spec_program.specs.Refusal.{WrongSystem}
 use Rattle.chew_spec_syllable.specs.Row.{Row}
 use Rattle.chew_spec_text.specs.DictionaryText.{system_limit}
-use Rattle.chew_spec_text.specs.Output.{WrongSystem}
-use Rattle.chew_spec_text.specs.Run.{value_or_refusal}
-use Rattle.std.specs.Global.{Vec}
-use Rattle.chew_outside.specs.ReadFault.{source_failed}
 use Rattle.chewing_cli.specs.Opens.{IsOrNoMemory, system_rows}
 use Rattle.chewing_cli.specs.Refusals.{outcome_of}
-use Rattle.chewing_cli.proofs.Reading.{reads_failed, reads_refused, reads_text}
+use Rattle.chewing_cli.proofs.Reading.{reads_text}
 use Rattle.chewing_cli.proofs.opening.open_system.Goals as goal
 
 pub returns-in-Ok : goal.returns-in-Ok
@@ -17,10 +15,3 @@ returns-in-Ok g c =
     (g.Y.Source.faults c.read_up_to.new.source) c.in-Ok.text.items (outcome_of (λ (rows : List Row). rows) c.system_of.result) c.in-Ok.ensures.ok (c.in-Ok.ensures.cause.same refl)
     (subst (λ (text : List ℕ). IsOrNoMemory (value_or_refusal system_rows WrongSystem (Some text)) (outcome_of (λ (rows : List Row). rows) c.system_of.result))
     c.as_slice.ensures.value c.system_of.ensures)
-
-pub returns-in-Err-NoMemory : goal.returns-in-Err-NoMemory
-returns-in-Err-NoMemory g c = reads_refused system_rows WrongSystem system_limit _
-
-pub returns-in-Err-Failed : goal.returns-in-Err-Failed
-returns-in-Err-Failed g c =
-    reads_failed system_rows WrongSystem system_limit _ _ _ _ _ c.in-Err-Failed.ensures.cause (ap (λ fault. source_failed {T = Vec ℕ} (Err fault)) c.in-Err-Failed.field-0-is)

@@ -1,24 +1,22 @@
 -- One context more ran.
 use Rattle.std.proofs.Common.{◌+◌, ◌≤◌, ◌∙◌, ℕ, [], length, ap, refl, subst, sym, arith}
-use Rattle.chewing_cli.specs.Done.{progress_of}
+use Rattle.std.proofs.lemmas.List.{length-append, length-map}
 use Rattle.chew_script.specs.Keys.{keys_of}
-use Rattle.chewing_cli.specs.Progress.{Ran, RanAll, ground_of}
-use Rattle.std.proofs.lemmas.List.{length-map}
-use Rattle.chewing_cli.proofs.Contexts.{few_of, ran_all_none, ran_ends, ran_fresh, ran_next}
+use Rattle.chewing_cli.specs.Progress.{Ran, RanAll, basis_over}
+use Rattle.chew_spec_program.specs.Context.{Basis}
+use Rattle.chewing_cli.proofs.Contexts.{few_of, ran_all_none, ran_ends, ran_next}
 use Rattle.chewing_cli.proofs.run.run_contexts.Goals as goal
 
 pub loop-keys-init : goal.loop-keys-init
-loop-keys-init c = record {
-  ran = subst (RanAll (ground_of c.args.system.now) [] (progress_of c.args.work.now)) (sym c.new-handled.ensures)
-      (ran_all_none (ground_of c.args.system.now) (progress_of c.args.work.now) c.requires.begins);
-  counted = refl;
-  each = ap length c.new-handled.ensures;
-}
-
-pub run_context-requires-clause-fresh : goal.run_context-requires-clause-fresh
-run_context-requires-clause-fresh c =
-    ran_fresh (ground_of c.args.system.now) (λ keys. keys_of keys.items) c.args.contexts.now c.loop-keys.keys-index (progress_of c.loop-keys.work) c.loop-keys.handled.items
-    c.loop-keys.who (omega arith) c.loop-keys.invariant.counted c.loop-keys.invariant.ran
+loop-keys-init c =
+    let basis : Basis = basis_over c.args.system.now c.args.work.now.point in
+    record {
+      ran = subst (RanAll basis [] c.args.work.now) (sym c.requires.none) (ran_all_none basis c.args.work.now c.requires.begins);
+      counted = refl;
+      each = omega (arith, ap length c.requires.none);
+      long = ap length c.requires.none;
+      room = c.requires.room;
+    }
 
 pub run_context-requires-clause-few : goal.run_context-requires-clause-few
 run_context-requires-clause-few c =
@@ -26,20 +24,25 @@ run_context-requires-clause-few c =
     (few_of (λ keys. keys_of keys.items) (λ keys. length keys.items) (λ keys. rw length-map refl) c.args.contexts.now c.loop-keys.keys-index c.keys-item.result (omega arith)
     c.keys-item.is c.requires.few_keys)
 
+pub run_context-requires-clause-silent : goal.run_context-requires-clause-silent
+run_context-requires-clause-silent c = c.loop-keys.invariant.ran.silent
+
 pub loop-keys-preserved : goal.loop-keys-preserved
 loop-keys-preserved c =
-    let ran : Ran (ground_of c.args.system.now) (c.loop-keys.who + 1) (keys_of c.keys-item.result.items) (progress_of c.loop-keys.work) (progress_of c.run_context.new.work) c.run_context.result =
-    subst (λ keys. Ran (ground_of c.args.system.now) (c.loop-keys.who + 1) (keys_of keys) (progress_of c.loop-keys.work) (progress_of c.run_context.new.work) c.run_context.result)
-    c.as_slice.ensures.value c.run_context.ensures.ran in
+    let basis : Basis = basis_over c.args.system.now c.args.work.now.point in
     record {
-      ran = subst (RanAll (ground_of c.args.system.now) _ (progress_of c.run_context.new.work)) (sym c.push.ensures.items)
-          (ran_next (ground_of c.args.system.now) (λ keys. keys_of keys.items) c.args.contexts.now c.loop-keys.keys-index (progress_of c.loop-keys.work) c.loop-keys.handled.items
-          c.loop-keys.who c.keys-item.result (progress_of c.run_context.new.work) c.run_context.result (omega arith) c.keys-item.is c.loop-keys.invariant.counted c.loop-keys.invariant.ran ran);
+      ran = subst (RanAll basis _ c.run_context.new.work) (sym c.push_reserved.ensures.items)
+          (ran_next basis (λ keys. keys_of keys.items) c.args.contexts.now c.loop-keys.keys-index c.loop-keys.work c.loop-keys.ends.items
+          c.loop-keys.who c.keys-item.result c.run_context.new.work c.run_context.result (omega arith) c.keys-item.is c.loop-keys.invariant.counted c.loop-keys.invariant.ran
+          (λ fresh. subst (λ keys. Ran basis (c.loop-keys.who + 1) (keys_of keys) c.loop-keys.work c.run_context.new.work c.run_context.result)
+          c.as_slice.ensures.value (c.run_context.ensures.ran c.args.work.now.point fresh)));
       counted = ap (λ (n : ℕ). n + 1) c.loop-keys.invariant.counted;
-      each = c.push.ensures.len ∙ ap (λ (n : ℕ). n + 1) c.loop-keys.invariant.each;
+      each = c.push_reserved.ensures.len ∙ ap (λ (n : ℕ). n + 1) c.loop-keys.invariant.each;
+      long = ap length c.push_reserved.ensures.items ∙ length-append c.loop-keys.ends.items _ ∙ ap (λ (n : ℕ). n + 1) c.loop-keys.invariant.long;
+      room = omega (arith, c.push_reserved.ensures.capacity, c.loop-keys.invariant.room);
     }
 
 pub returns-clause-all : goal.returns-clause-all
 returns-clause-all c =
-    ran_ends (ground_of c.args.system.now) (λ keys. keys_of keys.items) c.args.contexts.now c.loop-keys.keys-index (progress_of c.loop-keys.work) c.loop-keys.handled.items
+    ran_ends (basis_over c.args.system.now c.args.work.now.point) (λ keys. keys_of keys.items) c.args.contexts.now c.loop-keys.keys-index c.loop-keys.work c.loop-keys.ends.items
     c.loop-keys.who (omega arith) c.loop-keys.invariant.ran

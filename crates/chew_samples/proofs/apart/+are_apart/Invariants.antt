@@ -1,0 +1,6 @@
+-- The rows that are left.
+use Rattle.std.proofs.Common.{length}
+use Rattle.chew_samples.proofs.apart.«+are_apart».Given as goal
+
+abbrev pub decreases-are_apart : goal.decreases-are_apart
+decreases-are_apart l = length l.rows.now

@@ -1,0 +1,9 @@
+pub mod Handled
+pub mod Journal
+pub mod Opened
+pub mod Outputs
+pub mod Readings
+pub mod Runs
+pub mod Told
+pub mod ToldRuns
+pub mod Writings

@@ -1,0 +1,10 @@
+pub mod Command
+pub mod Context
+pub mod Opening
+pub mod Output
+pub mod Reading
+pub mod Refusal
+pub mod Run
+pub mod Sample
+pub mod SampleRun
+pub mod Writing

@@ -1,0 +1,70 @@
+-- The opening of a run: its inputs, or why it is refused before its first key.
+use Rattle.std.specs.Prelude.{◌≡◌, ◌⊎◌, ℕ, true, ◌&&◌, List, [], Option, Some, None, Result, Ok, Err, is_ok, if◌then◌else◌}
+use Rattle.chew_spec_syllable.specs.Row.{Row, image_cmp}
+use Rattle.chew_spec_dictionary.specs.History.{Point, start_of}
+use Rattle.chew_spec_dictionary.specs.Order.{in_order}
+use Rattle.chew_spec_text.specs.DictionaryText.{dictionary_rows, system_limit}
+use Rattle.chew_spec_text.specs.Script.{Script, script_limit, script_of}
+use Rattle.chew_spec_editor.specs.Settings.{standard_settings}
+use Rattle.chew_spec_program.specs.Command.{is_run_command}
+use Rattle.chew_spec_program.specs.Context.{Basis}
+use Rattle.chew_spec_program.specs.Reading.{IsReadWhere, Watched}
+use Rattle.chew_spec_program.specs.Refusal.{Refusal, NoMemory, SourceFailed, WrongScript, WrongSystem, WrongWords}
+
+-- the inputs of a run: what it stands on, and what its script says
+pub record Inputs : Type 0 where
+  pub basis : Basis
+  pub script : Script
+
+-- a user's dictionary without a pair
+abbrev pub nothing_learnt : Point
+nothing_learnt = start_of (record { pairs = []; life = 0; cap = 65_536 })
+
+-- a run over these rows, put in image order, stands on them, the standard settings and a dictionary without a pair
+abbrev pub basis_of : List Row → Basis
+basis_of rows = record { system = in_order image_cmp rows; settings = standard_settings; start = nothing_learnt }
+
+-- a value, or the refusal that its fault makes
+abbrev pub or_refusal : {X F : Type 0} → (F → Refusal) → Result X F → Result X Refusal
+or_refusal refusal (Ok value) = Ok value
+or_refusal refusal (Err fault) = Err (refusal fault)
+
+-- the value of an input's text, or why there is none; no text is that of a source that failed
+abbrev pub value_or_refusal : {X F : Type 0} → (List ℕ → Result X F) → (F → Refusal) → Option (List ℕ) → Result X Refusal
+value_or_refusal value refusal None = Err SourceFailed
+value_or_refusal value refusal (Some text) = or_refusal refusal (value text)
+
+-- the rows of the system's text, and what the script's text says
+abbrev pub system_value : Option (List ℕ) → Result (List Row) Refusal
+system_value text = value_or_refusal dictionary_rows WrongSystem text
+
+abbrev pub script_value : Option (List ℕ) → Result Script Refusal
+script_value text = value_or_refusal script_of WrongScript text
+
+-- the inputs of these rows and this script, or the first refusal: the system comes before the script
+abbrev pub inputs_of : Result (List Row) Refusal → Result Script Refusal → Result Inputs Refusal
+inputs_of (Err refusal) script = Err refusal
+inputs_of (Ok rows) (Err refusal) = Err refusal
+inputs_of (Ok rows) (Ok script) = Ok (record { basis = basis_of rows; script = script })
+
+-- the inputs of a run with these words by the texts of its sources, or its refusal: the words come before the inputs
+unfoldable pub opening : List (List ℕ) → (system script : Option (List ℕ)) → Result Inputs Refusal
+opening words system script = if is_run_command words then inputs_of (system_value system) (script_value script) else Err WrongWords
+
+-- these texts were read of the two sources and give this: the system is read where the words have the form of a command,
+-- and the script where the system has no fault
+pub record Opens (words : List (List ℕ)) (system script : Watched) (opened : Result Inputs Refusal) : Type 0 where
+  pub system_text : Option (List ℕ)
+  pub script_text : Option (List ℕ)
+  pub system_read : IsReadWhere (is_run_command words) system system_limit system_text
+  pub script_read : IsReadWhere (is_run_command words && is_ok (system_value system_text)) script script_limit script_text
+  pub gives : opened ≡ opening words system_text script_text
+
+-- memory was wanting, behind the words
+pub record WantedMemory (words : List (List ℕ)) (opened : Result Inputs Refusal) : Type 0 where
+  pub command : is_run_command words ≡ true
+  pub refused : opened ≡ Err NoMemory
+
+-- what the opening of a run gives
+abbrev pub IsOpening : List (List ℕ) → (system script : Watched) → Result Inputs Refusal → Type 0
+IsOpening words system script opened = Opens words system script opened ⊎ WantedMemory words opened

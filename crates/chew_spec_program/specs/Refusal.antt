@@ -1,0 +1,60 @@
+-- Why a run is refused before its first key, and the line and the status that tell it.
+use Rattle.std.specs.Prelude.{ℕ, List, ◌∷◌, ◌++◌, codes, decimal}
+use Rattle.chew_spec_text.specs.DictionaryText as row
+use Rattle.chew_spec_text.specs.DictionaryText.{RowCause}
+use Rattle.chew_spec_text.specs.Line.{with_line_feed}
+use Rattle.chew_spec_text.specs.Lines.{Fault}
+use Rattle.chew_spec_text.specs.Script as script
+use Rattle.chew_spec_text.specs.Script.{ScriptCause}
+
+-- the word of each cause of a dictionary's fault
+abbrev pub row_cause_word : RowCause → List ℕ
+row_cause_word row.Size = codes "size"
+row_cause_word row.Phrase = codes "phrase"
+row_cause_word row.Frequency = codes "frequency"
+row_cause_word row.Syllable = codes "syllable"
+row_cause_word row.Lengths = codes "lengths"
+row_cause_word row.Twice = codes "twice"
+row_cause_word row.Rows = codes "rows"
+
+-- the word of each cause of a script's fault
+abbrev pub script_cause_word : ScriptCause → List ℕ
+script_cause_word script.Size = codes "size"
+script_cause_word script.Byte = codes "byte"
+script_cause_word script.Form = codes "line"
+script_cause_word script.Context = codes "context"
+script_cause_word script.Key = codes "key"
+script_cause_word script.Keys = codes "keys"
+script_cause_word script.Rounds = codes "rounds"
+
+-- why a run is refused before its first key
+pub data Refusal : Type 0 where
+  -- the words have no form of a command
+  WrongWords : Refusal
+  -- the system or the script is not in its grammar
+  WrongSystem : (fault : Fault RowCause) → Refusal
+  WrongScript : (fault : Fault ScriptCause) → Refusal
+  -- a source failed
+  SourceFailed : Refusal
+  -- memory was wanting
+  NoMemory : Refusal
+
+-- the name of an input, the number of a line, and the word of a cause
+abbrev pub fault_line : List ℕ → ℕ → List ℕ → List ℕ
+fault_line input line word = input ++ (32 ∷ (decimal line ++ (32 ∷ with_line_feed word)))
+
+-- the line that tells a refusal
+abbrev pub refusal_line : Refusal → List ℕ
+refusal_line WrongWords = with_line_feed (codes "words")
+refusal_line (WrongSystem fault) = fault_line (codes "system") fault.line (row_cause_word fault.cause)
+refusal_line (WrongScript fault) = fault_line (codes "script") fault.line (script_cause_word fault.cause)
+refusal_line SourceFailed = with_line_feed (codes "source")
+refusal_line NoMemory = with_line_feed (codes "memory")
+
+-- the status of a refused run
+abbrev pub refusal_status : Refusal → ℕ
+refusal_status WrongWords = 2
+refusal_status (WrongSystem fault) = 4
+refusal_status (WrongScript fault) = 5
+refusal_status SourceFailed = 7
+refusal_status NoMemory = 10

@@ -1,0 +1,56 @@
+-- What laws speak of: a run over the five rows, and two contexts whose calls stand among each other.
+use Rattle.std.specs.Prelude.{ℕ, List, [], ◌∷◌, ◌++◌, codes, map}
+use Rattle.chew_spec_dictionary.specs.Call.{Look}
+use Rattle.chew_spec_dictionary.specs.FiveRows.{ce4, five_rows, shi4}
+use Rattle.chew_spec_dictionary.specs.History.{Entry}
+use Rattle.chew_spec_text.specs.KeyStroke.{KeyStroke, Char}
+use Rattle.chew_spec_text.specs.Line.{Line, Quiet}
+use Rattle.chew_spec_text.specs.Sample.{bytes_of}
+use Rattle.chew_spec_program.specs.Context.{Basis}
+use Rattle.chew_spec_program.specs.Opening.{basis_of}
+
+-- the words of a run
+abbrev pub run_words : List (List ℕ)
+run_words = codes "run" ∷ (codes "s" ∷ (codes "k" ∷ (codes "f" ∷ [])))
+
+-- what a run over the five rows stands on
+abbrev pub five_basis : Basis
+five_basis = basis_of five_rows
+
+-- a quiet line with this pre-edit text, column, and text that the layout holds
+abbrev pub plain_line : List ℕ → ℕ → List ℕ → Line
+plain_line preedit column held = record { preedit = preedit; column = column; held = held; commit = []; window = []; note = Quiet }
+
+-- the keys of a context, and their lines: one syllable, and another behind it
+abbrev pub first_keys : List KeyStroke
+first_keys = map Char (codes "hk4g4")
+
+abbrev pub first_lines : List Line
+first_lines = plain_line [] 0 (bytes_of "ㄘ") ∷ (plain_line [] 0 (bytes_of "ㄘㄜ") ∷ (plain_line (bytes_of "策") 2 []
+    ∷ (plain_line (bytes_of "策") 2 (bytes_of "ㄕ") ∷ (plain_line (bytes_of "測試") 4 [] ∷ []))))
+
+-- of another
+abbrev pub second_keys : List KeyStroke
+second_keys = map Char (codes "g4")
+
+abbrev pub second_lines : List Line
+second_lines = plain_line [] 0 (bytes_of "ㄕ") ∷ (plain_line (bytes_of "是") 2 [] ∷ [])
+
+-- a look-up by a number
+abbrev pub look_by : ℕ → List ℕ → Entry
+look_by who run = record { who = who; call = Look run }
+
+-- the second context's look-up stands between those of the first
+abbrev pub both_journal : List Entry
+both_journal = look_by 1 (ce4 ∷ []) ∷ (look_by 2 (shi4 ∷ []) ∷ (look_by 1 (ce4 ∷ (shi4 ∷ [])) ∷ []))
+
+-- the look-ups of the first in the other order
+abbrev pub swapped_journal : List Entry
+swapped_journal = look_by 1 (ce4 ∷ (shi4 ∷ [])) ∷ (look_by 2 (shi4 ∷ []) ∷ (look_by 1 (ce4 ∷ []) ∷ []))
+
+-- the second of them left out, and one more
+abbrev pub short_journal : List Entry
+short_journal = look_by 1 (ce4 ∷ []) ∷ (look_by 2 (shi4 ∷ []) ∷ [])
+
+abbrev pub long_journal : List Entry
+long_journal = both_journal ++ look_by 1 (ce4 ∷ (shi4 ∷ [])) ∷ []

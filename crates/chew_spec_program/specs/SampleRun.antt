@@ -1,0 +1,49 @@
+-- What laws speak of: a run over the five rows.
+use Rattle.std.specs.Prelude.{ℕ, List, [], ◌∷◌, ◌++◌, Some, codes, flat_map, map}
+use Rattle.chew_spec_dictionary.specs.FiveRows.{ce4, shi4}
+use Rattle.chew_spec_dictionary.specs.History.{Entry}
+use Rattle.chew_spec_text.specs.KeyStroke.{KeyStroke, Char, Enter}
+use Rattle.chew_spec_text.specs.Line.{with_line_feed}
+use Rattle.chew_spec_text.specs.Sample.{bytes_of, five_lines}
+use Rattle.chew_spec_program.specs.Opening.{Inputs}
+use Rattle.chew_spec_program.specs.Reading.{watched}
+use Rattle.chew_spec_program.specs.Run.{Ended, Outside}
+use Rattle.chew_spec_program.specs.Sample.{five_basis, look_by}
+use Rattle.chew_spec_program.specs.Writing.{sunk}
+
+-- the texts of its inputs
+abbrev pub five_text : List ℕ
+five_text = flat_map with_line_feed five_lines
+
+abbrev pub keys_text : List ℕ
+keys_text = with_line_feed (codes "1:hk4g4<E>")
+
+-- its keys, and its inputs
+abbrev pub five_keys : List KeyStroke
+five_keys = map Char (codes "hk4g4") ++ Enter ∷ []
+
+abbrev pub five_inputs : Inputs
+five_inputs = record { basis = five_basis; script = record { contexts = five_keys ∷ []; rounds = 0 } }
+
+-- its calls
+abbrev pub five_journal : List Entry
+five_journal = look_by 1 (ce4 ∷ []) ∷ (look_by 1 (ce4 ∷ (shi4 ∷ [])) ∷ [])
+
+-- its output, without and with the line of Enter
+abbrev pub before_enter : List ℕ
+before_enter = bytes_of "context 1\n\t0\tㄘ\t\t\t\n\t0\tㄘㄜ\t\t\t\n策\t2\t\t\t\t\n策\t2\tㄕ\t\t\t\n測試\t4\t\t\t\t\n"
+
+abbrev pub five_output : List ℕ
+five_output = bytes_of "context 1\n\t0\tㄘ\t\t\t\n\t0\tㄘㄜ\t\t\t\n策\t2\t\t\t\t\n策\t2\tㄕ\t\t\t\n測試\t4\t\t\t\t\n\t0\t\t測試\t\t\n"
+
+-- both sources were read out, and the sink took this
+abbrev pub five_outside : List ℕ → Outside
+five_outside taken = record {
+  system = watched (Some five_text) (Some []) 0 0;
+  script = watched (Some keys_text) (Some []) 0 0;
+  sink = sunk (Some []) (Some taken) 0 0;
+}
+
+-- all six keys were handled, with these calls
+abbrev pub five_ended : List Entry → Ended
+five_ended journal = record { status = 0; journal = journal; handled = 6 ∷ [] }

@@ -1,0 +1,12 @@
+//! Laws and known values of the definitions.
+
+mod command;
+mod context;
+mod journal;
+mod known_run;
+mod opened;
+mod opening;
+mod output;
+mod reading;
+mod run;
+mod writing;

@@ -1,0 +1,60 @@
+//! Laws and known values of what is printed, and of refusals.
+
+ghost use Rattle.std.specs.Prelude.{◌≡◌, ℕ, ◌+◌, List, [], ◌∷◌, ◌++◌, flat_map, length, map, codes};
+ghost use Rattle.chew_spec_text.specs.DictionaryText as row;
+ghost use Rattle.chew_spec_text.specs.Line.{Line, Bell, line_text, with_line_feed};
+ghost use Rattle.chew_spec_text.specs.Script as script;
+ghost use Rattle.chew_spec_program.specs.Output.{context_text, output, header, texts_from};
+ghost use Rattle.chew_spec_program.specs.Refusal.{refusal_line, refusal_status, WrongWords, WrongSystem, WrongScript, SourceFailed, NoMemory};
+
+/// The header of the first context.
+pub fn known_header()
+    ensures first { header 1 ≡ codes "context 1" ++ 10 ∷ [] }
+{}
+
+/// The output of two contexts, the first without a handled key.
+pub fn known_output()
+    ensures two { output ([] ∷ ((record { preedit = []; column = 0; held = []; commit = []; window = []; note = Bell } ∷ []) ∷ [])) ≡ with_line_feed (codes "context 1") ++ (with_line_feed (codes "context 2") ++ (9 ∷ (48 ∷ (9 ∷ (9 ∷ (9 ∷ (9 ∷ with_line_feed (codes "bell")))))))) }
+{}
+
+/// The output of contexts and one more is theirs, and that of the last behind it.
+pub fn contexts_in_order()
+    ensures { (contexts : List (List Line)) (lines : List Line) → output (contexts ++ lines ∷ []) ≡ output contexts ++ context_text (length contexts + 1) lines }
+{}
+
+/// The output is each context's lines behind its header.
+pub fn output_by_contexts()
+    ensures { (contexts : List (List Line)) → texts_from 1 (map (flat_map line_text) contexts) ≡ output contexts }
+{}
+
+/// The line and the status of each refusal that names no cause.
+pub fn known_refusals()
+    ensures words { refusal_line WrongWords ≡ with_line_feed (codes "words") }
+    ensures source { refusal_line SourceFailed ≡ with_line_feed (codes "source") }
+    ensures memory { refusal_line NoMemory ≡ with_line_feed (codes "memory") }
+    ensures statuses { map refusal_status (WrongWords ∷ (SourceFailed ∷ (NoMemory ∷ []))) ≡ 2 ∷ (7 ∷ (10 ∷ [])) }
+{}
+
+/// The line of each fault of a system, and the status 4.
+pub fn known_system_refusals()
+    ensures size { refusal_line (WrongSystem (record { line = 0; cause = row.Size })) ≡ with_line_feed (codes "system 0 size") }
+    ensures phrase { refusal_line (WrongSystem (record { line = 1; cause = row.Phrase })) ≡ with_line_feed (codes "system 1 phrase") }
+    ensures frequency { refusal_line (WrongSystem (record { line = 2; cause = row.Frequency })) ≡ with_line_feed (codes "system 2 frequency") }
+    ensures syllable { refusal_line (WrongSystem (record { line = 3; cause = row.Syllable })) ≡ with_line_feed (codes "system 3 syllable") }
+    ensures lengths { refusal_line (WrongSystem (record { line = 10; cause = row.Lengths })) ≡ with_line_feed (codes "system 10 lengths") }
+    ensures twice { refusal_line (WrongSystem (record { line = 250; cause = row.Twice })) ≡ with_line_feed (codes "system 250 twice") }
+    ensures rows { refusal_line (WrongSystem (record { line = 250_001; cause = row.Rows })) ≡ with_line_feed (codes "system 250001 rows") }
+    ensures status { (line : ℕ) (cause : row.RowCause) → refusal_status (WrongSystem (record { line = line; cause = cause })) ≡ 4 }
+{}
+
+/// The line of each fault of a script, and the status 5.
+pub fn known_script_refusals()
+    ensures size { refusal_line (WrongScript (record { line = 0; cause = script.Size })) ≡ with_line_feed (codes "script 0 size") }
+    ensures byte { refusal_line (WrongScript (record { line = 1; cause = script.Byte })) ≡ with_line_feed (codes "script 1 byte") }
+    ensures form { refusal_line (WrongScript (record { line = 2; cause = script.Form })) ≡ with_line_feed (codes "script 2 line") }
+    ensures context { refusal_line (WrongScript (record { line = 1; cause = script.Context })) ≡ with_line_feed (codes "script 1 context") }
+    ensures key { refusal_line (WrongScript (record { line = 1; cause = script.Key })) ≡ with_line_feed (codes "script 1 key") }
+    ensures keys { refusal_line (WrongScript (record { line = 17; cause = script.Keys })) ≡ with_line_feed (codes "script 17 keys") }
+    ensures rounds { refusal_line (WrongScript (record { line = 65; cause = script.Rounds })) ≡ with_line_feed (codes "script 65 rounds") }
+    ensures status { (line : ℕ) (cause : script.ScriptCause) → refusal_status (WrongScript (record { line = line; cause = cause })) ≡ 5 }
+{}

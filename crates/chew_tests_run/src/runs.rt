@@ -1,0 +1,111 @@
+//! Runs of the program over texts in memory, with reads and writes that fail, and what they end with.
+
+ghost use Rattle.std.specs.Prelude.{◌≤◌};
+
+use chew_outside::{Fails, MemSink, MemSource};
+use chew_plain::{Call, Entry};
+use chewing_cli::{Done, chewing};
+use std::alloc::{AllocError, Global};
+use std::process::Abort;
+
+/// Two syllables and Enter, in 11 bytes.
+pub(crate) const TWO_SYLLABLES: &str = "1:hk4g4<E>\n";
+
+/// What the two syllables print over the five rows.
+pub(crate) const TWO_SYLLABLES_PRINTED: &str =
+    "context 1\n\t0\tㄘ\t\t\t\n\t0\tㄘㄜ\t\t\t\n策\t2\t\t\t\t\n策\t2\tㄕ\t\t\t\n測試\t4\t\t\t\t\n\t0\t\t測試\t\t\n";
+
+/// The words of a run.
+const WORDS: [&str; 4] = ["run", "system", "script", "folder"];
+
+/// The calls that fail of the system, of the script and of the sink.
+#[derive(Drop)]
+pub(crate) struct Plan {
+    pub(crate) system: Fails,
+    pub(crate) script: Fails,
+    pub(crate) sink: Fails,
+}
+
+/// No call fails.
+pub(crate) fn nothing(alloc: Global) -> Plan {
+    Plan {
+        system: Fails::never(alloc),
+        script: Fails::never(alloc),
+        sink: Fails::never(alloc),
+    }
+}
+
+/// A call fails by itself, or all from it on.
+pub(crate) fn failing(alloc: Global, call: u64, alone: bool) -> Result<Fails, AllocError> {
+    let mut at = Vec::new(alloc);
+    if !alone {
+        return Ok(Fails {
+            at,
+            from: Some(call),
+        });
+    }
+    at.push(call)?;
+    Ok(Fails { at, from: None })
+}
+
+/// A run over these texts, and the sink that it wrote to.
+pub(crate) fn ran(
+    alloc: Global,
+    system: &str,
+    script: &str,
+) -> Result<(Done, MemSink), AllocError> {
+    ran_with(alloc, system, script, 4096, nothing(alloc))
+}
+
+/// A run over these texts, of which a read gives at most `cut` bytes, with these failing calls; and the sink that it
+/// wrote to.
+pub(crate) fn ran_with(
+    alloc: Global,
+    system: &str,
+    script: &str,
+    cut: usize,
+    plan: Plan,
+) -> Result<(Done, MemSink), AllocError>
+    requires { 1 ≤ cut }
+{
+    let mut system = MemSource::of(system.as_bytes().to_vec(alloc)?, cut, plan.system);
+    let mut script = MemSource::of(script.as_bytes().to_vec(alloc)?, cut, plan.script);
+    let mut sink = MemSink::of(alloc, plan.sink);
+    let done = chewing(alloc, &WORDS, &mut system, &mut script, &mut sink);
+    Ok((done, sink))
+}
+
+/// The run ends with this status and these numbers of handled keys, one for each context, and the sink took this.
+pub(crate) fn ends(
+    rt: &impl Abort,
+    run: &(Done, MemSink),
+    status: u8,
+    taken: &str,
+    handled: &[u32],
+) {
+    assert_eq!(rt; run.0.status, status);
+    assert_eq!(rt; run.1.bytes(), taken.as_bytes());
+    assert_eq!(rt; run.0.handled.as_slice(), handled);
+}
+
+/// The calls are look-ups by these contexts of syllables with these codes, in this order.
+pub(crate) fn looks(rt: &impl Abort, journal: &[Entry], wanted: &[(u32, &[u16])]) {
+    assert_eq!(rt; journal.len(), wanted.len());
+    for (entry, (who, codes)) in journal.iter().zip(wanted) {
+        assert_eq!(rt; entry.who, *who);
+        is_look(rt, &entry.call, codes);
+    }
+}
+
+/// The call is a look-up of syllables with these codes.
+fn is_look(rt: &impl Abort, call: &Call, codes: &[u16]) {
+    match call {
+        Call::Look(run) => {
+            assert_eq!(rt; run.list().len(), codes.len());
+            for (syllable, code) in run.list().iter().zip(codes) {
+                assert_eq!(rt; syllable.code(), *code);
+            }
+        }
+        _ => panic!(rt; "this is no look-up"),
+    }
+}
