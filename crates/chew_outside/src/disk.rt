@@ -21,6 +21,7 @@ pub trait Disk: Send {
     fn length(&mut self, slot: u8) -> Result<u64, Failed>
         requires { slot < 2 }
         ensures told { told self.new ≡ told self.old }
+        ensures is_disk { told self.old ≡ true → IsDisk (state self.new) }
         ensures ok { told self.old ≡ true → IfOk result (λ n. n ≡ length ((state self.old).reads slot)) }
         ensures stays { told self.old ≡ true → Stays (state self.old) (state self.new) }
         ensures cause { HasCause (faults self.old) (faults self.new) (is_err result) };
@@ -30,6 +31,7 @@ pub trait Disk: Send {
     fn read_at(&mut self, slot: u8, at: u64, into: &mut [u8]) -> Result<usize, Failed>
         requires { slot < 2 }
         ensures told { told self.new ≡ told self.old }
+        ensures is_disk { told self.old ≡ true → IsDisk (state self.new) }
         ensures fits { IfOk result (λ n. n ≤ length into.old) }
         ensures ok { told self.old ≡ true → IfOk result (λ n. ReadsAt ((state self.old).reads slot) at into.old into.new n) }
         ensures stays { told self.old ≡ true → Stays (state self.old) (state self.new) }
@@ -40,6 +42,7 @@ pub trait Disk: Send {
     fn write_at(&mut self, slot: u8, at: u64, bytes: &[u8]) -> Result<(), Failed>
         requires { slot < 2 }
         ensures told { told self.new ≡ told self.old }
+        ensures is_disk { told self.old ≡ true → IsDisk (state self.new) }
         ensures answer { told self.old ≡ true → WriteAnswers slot at bytes.now (state self.old) (state self.new) result }
         ensures cause { HasCause (faults self.old) (faults self.new) (is_err result) };
 
@@ -47,8 +50,7 @@ pub trait Disk: Send {
     fn sync(&mut self, slot: u8) -> Result<(), Failed>
         requires { slot < 2 }
         ensures told { told self.new ≡ told self.old }
+        ensures is_disk { told self.old ≡ true → IsDisk (state self.new) }
         ensures answer { told self.old ≡ true → SyncAnswers slot (state self.old) (state self.new) result }
         ensures cause { HasCause (faults self.old) (faults self.new) (is_err result) };
-
-    ghost is_disk: { (disk : Self) → told disk ≡ true → IsDisk (state disk) };
 }

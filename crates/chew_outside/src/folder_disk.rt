@@ -1,5 +1,4 @@
 ghost use Rattle.std.specs.Prelude.{◌≡◌, ℕ, ◌<◌, ◌≤◌, Bool, true, false, length, is_err, IfOk};
-ghost use Rattle.std.proofs.lemmas.Bool.{false≢true};
 ghost use Rattle.chew_spec_outside.specs.Faults.{HasCause};
 ghost use Rattle.chew_spec_outside.specs.Memory.{counted};
 ghost use Rattle.chew_spec_disk.specs.Disk.{DiskState, IsDisk, untold};
@@ -88,8 +87,6 @@ impl Disk for FolderDisk {
         let done = self.file(slot).sync_all();
         self.counted(done)
     }
-
-    ghost is_disk = { λ disk told. absurd (false≢true told) };
 }
 
 fn length_of(file: &File) -> io::Result<u64> {

@@ -4,7 +4,6 @@ ghost use Rattle.chew_spec_outside.specs.Memory.{counted};
 ghost use Rattle.chew_spec_disk.specs.Crash.{IsCrashOf};
 ghost use Rattle.chew_spec_disk.specs.Disk.{DiskState, IsDisk, Stays};
 ghost use Rattle.chew_spec_disk.specs.Memory.{IsSound, MemoryDisk, MemoryWrites, after_sync, called, disk_state, fails_next, history_of, new_disk};
-ghost use Rattle.chew_spec_disk.proofs.Histories.{is-disk};
 ghost use Rattle.chew_spec_disk.specs.Reads.{ReadsAt};
 ghost use Rattle.chew_spec_disk.specs.Sync.{SyncAnswers};
 ghost use Rattle.chew_spec_disk.specs.Write.{WriteAnswers};
@@ -152,6 +151,7 @@ impl MemDisk {
     }
 }
 
+#[tactic(auto, using(chew_spec_disk::proofs::Histories::memory_is_disk))]
 impl Disk for MemDisk {
     ghost told = { λ disk. true };
 
@@ -163,6 +163,7 @@ impl Disk for MemDisk {
     fn length(&mut self, slot: u8) -> Result<u64, Failed>
         requires { slot < 2 }
         ensures told { true ≡ true }
+        ensures is_disk { true ≡ true → IsDisk (disk_state self.new) }
         ensures ok { true ≡ true → IfOk result (λ n. n ≡ length ((disk_state self.old).reads slot)) }
         ensures stays { true ≡ true → Stays (disk_state self.old) (disk_state self.new) }
         ensures cause { HasCause self.old.faults self.new.faults (is_err result) }
@@ -179,6 +180,7 @@ impl Disk for MemDisk {
     fn read_at(&mut self, slot: u8, at: u64, into: &mut [u8]) -> Result<usize, Failed>
         requires { slot < 2 }
         ensures told { true ≡ true }
+        ensures is_disk { true ≡ true → IsDisk (disk_state self.new) }
         ensures fits { IfOk result (λ n. n ≤ length into.old) }
         ensures ok { true ≡ true → IfOk result (λ n. ReadsAt ((disk_state self.old).reads slot) at into.old into.new n) }
         ensures stays { true ≡ true → Stays (disk_state self.old) (disk_state self.new) }
@@ -197,6 +199,7 @@ impl Disk for MemDisk {
     fn write_at(&mut self, slot: u8, at: u64, bytes: &[u8]) -> Result<(), Failed>
         requires { slot < 2 }
         ensures told { true ≡ true }
+        ensures is_disk { true ≡ true → IsDisk (disk_state self.new) }
         ensures answer { true ≡ true → WriteAnswers slot at bytes.now (disk_state self.old) (disk_state self.new) result }
         ensures cause { HasCause self.old.faults self.new.faults (is_err result) }
         ensures writes { MemoryWrites slot at bytes.now self.old self.new (is_err result) }
@@ -208,6 +211,7 @@ impl Disk for MemDisk {
     fn sync(&mut self, slot: u8) -> Result<(), Failed>
         requires { slot < 2 }
         ensures told { true ≡ true }
+        ensures is_disk { true ≡ true → IsDisk (disk_state self.new) }
         ensures answer { true ≡ true → SyncAnswers slot (disk_state self.old) (disk_state self.new) result }
         ensures cause { HasCause self.old.faults self.new.faults (is_err result) }
         ensures named { is_err result ≡ fails_next self.old }
@@ -215,6 +219,4 @@ impl Disk for MemDisk {
     {
         self.sync_slot(slot)
     }
-
-    ghost is_disk = { λ disk told. is-disk disk };
 }

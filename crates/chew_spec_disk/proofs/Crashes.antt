@@ -1,9 +1,9 @@
 -- What a crash leaves, event by event.
-use Rattle.std.specs.Prelude.{◌≡◌, ◌⊎◌, ℕ, ◌+◌, ◌<◌, ◌≤◌, Bool, true, false, List, [], ◌∷◌, length, take, replicate, cond, refl}
-use Rattle.std.proofs.Common.{arith, get_or, inl, inr, sym, ap, ◌∙◌, subst}
+use Rattle.std.specs.Prelude.{◌≡◌, ◌⊎◌, ℕ, ◌+◌, ◌<◌, ◌≤◌, Bool, true, false, List, [], ◌∷◌, length, replicate, cond, refl}
+use Rattle.std.proofs.Common.{arith, inl, inr, sym, ap, ◌∙◌, subst}
 use Rattle.std.proofs.lemmas.List.{get_or-take, length-replicate, length-take}
-use Rattle.chew_spec_disk.specs.Crash.{IsCrashOf, IsTearOf, mark, marked_after, synced_after, with_marks}
-use Rattle.chew_spec_disk.specs.Memory.{Event, Written, Synced, SlotHistory, IsLeftAfter, reads_after, written}
+use Rattle.chew_spec_disk.specs.Crash.{IsCrashOf, IsTearOf, mark, with_marks}
+use Rattle.chew_spec_disk.specs.Memory.{Event, Written, Synced, reads_after, written}
 use Rattle.chew_spec_disk.specs.Write.{Torn}
 use Rattle.chew_spec_disk.proofs.Written.{length-written, torn-written, written-same}
 

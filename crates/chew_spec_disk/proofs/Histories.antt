@@ -4,7 +4,7 @@ use Rattle.std.proofs.Common.{arith, true≢false, sym, ap, ◌∙◌, subst, �
 use Rattle.std.proofs.lemmas.Bool.{cases_eq, cases_lt}
 use Rattle.std.proofs.lemmas.Bool.Decides.{nat_tests}
 use Rattle.chew_spec_outside.specs.Faults.{risen}
-use Rattle.chew_spec_disk.specs.Disk.{IsDisk, Passes, Stays, last_moment}
+use Rattle.chew_spec_disk.specs.Disk.{IsDisk, Passes, Stays}
 use Rattle.chew_spec_disk.specs.Sync.{Syncs}
 use Rattle.chew_spec_disk.specs.Write.{Holds, Torn, Writes, Wrote}
 use Rattle.chew_spec_disk.specs.Memory.{Event, Written, Synced, SlotHistory, MemoryDisk, IsLeftAfter, IsSound, IsUpTo, disk_state, is_written, with_event, with_sync, events_at, events_until, history_of, moment_of, reads_after}
@@ -30,8 +30,8 @@ test-within : (m n : ℕ) → m ≤ n → nat_le m n ≡ true
 test-within m n h = grind (arith, nat_tests)
 
 -- a disk in memory is a disk
-pub is-disk : (disk : MemoryDisk) → IsDisk (disk_state disk)
-is-disk disk = record {
+pub memory_is_disk : (disk : MemoryDisk) → IsDisk (disk_state disk)
+memory_is_disk disk = record {
   reads_may_be_left = λ slot. reads-left (history_of disk slot).first (history_of disk slot).events;
   this_moment = λ under slot list.
       let here : events_at disk disk.calls slot ≡ (history_of disk slot).events = ap (λ b. cond b (events_until disk.calls (history_of disk slot).events) (history_of disk slot).events) (test-not-below disk.calls disk.calls (omega arith)) in

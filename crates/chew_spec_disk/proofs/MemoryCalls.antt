@@ -1,6 +1,6 @@
 -- What each call of a disk in memory does to what it tells.
-use Rattle.std.specs.Prelude.{◌≡◌, ◌≢◌, ◌⊎◌, ℕ, zero, suc, ◌-◌, ◌^◌, ◌<◌, ◌≤◌, Bool, true, false, not, ◌==◌, List, [], ◌∷◌, length, cond, Result, Ok, Err, is_err, refl}
-use Rattle.std.proofs.Common.{arith, eqb, true≢false, sym, ap, ◌∙◌, subst, inl, inr, ⊎_elim}
+use Rattle.std.specs.Prelude.{◌≡◌, ◌≢◌, ◌⊎◌, ℕ, zero, suc, ◌<◌, ◌≤◌, Bool, true, false, not, ◌==◌, List, [], ◌∷◌, length, cond, Result, Ok, Err, is_err, refl}
+use Rattle.std.proofs.Common.{arith, eqb, true≢false, sym, ap, ◌∙◌, inl, inr, ⊎_elim}
 use Rattle.std.proofs.lemmas.Bool.{false≢true}
 use Rattle.std.proofs.lemmas.Bool.Decides.{nat_tests}
 use Rattle.chew_spec_outside.specs.Faults.{HasCause, risen}

@@ -1,16 +1,15 @@
 -- What is known of the slots fits the disk once a gate is surely shut, once it is to be lifted, and once it is lifted.
-use Rattle.std.specs.Prelude.{◌≡◌, ◌≢◌, ◌⊎◌, ℕ, zero, suc, ◌+◌, ◌-◌, ◌<◌, ◌≤◌, Bool, true, false, not, ◌&&◌, ◌==◌, nat_le, List, [], ◌∷◌, length, drop, slice_index, cond, Option, Some, None, refl}
-use Rattle.std.proofs.Common.{arith, eqb, eqb-true, inl, inr, sym, ap, ap₂, ◌∙◌, subst, true≢false, ⊎_elim}
-use Rattle.std.proofs.lemmas.Bool.{and_parts, cases_eq}
+use Rattle.std.specs.Prelude.{◌≡◌, ◌≢◌, ◌⊎◌, ℕ, zero, suc, ◌+◌, ◌<◌, ◌≤◌, Bool, true, false, not, ◌&&◌, ◌==◌, nat_le, List, [], ◌∷◌, length, slice_index, cond, Option, Some, None, refl}
+use Rattle.std.proofs.Common.{arith, eqb, inl, inr, sym, ap, ◌∙◌, subst, true≢false, ⊎_elim}
+use Rattle.std.proofs.lemmas.Bool.{cases_eq}
 use Rattle.std.proofs.lemmas.Bool.Decides.{nat_tests}
 use Rattle.chew_spec_disk.specs.Disk.{DiskState, IsDisk}
 use Rattle.chew_spec_disk.specs.Sync.{IsSettled, Syncs}
-use Rattle.chew_spec_slots.specs.Fits.{DoesNotCount, Fits, IsAnyGate, IsApart, IsBehindGate, IsFilled, Loses, MayOpen, Stands}
-use Rattle.chew_spec_slots.specs.Keep.{Keep, acknowledged_state, advanced, checkpoint_in, is_shut, left_state, opened, other, slot_checkpoint, with_seq, with_shut}
+use Rattle.chew_spec_slots.specs.Fits.{DoesNotCount, Fits, IsAnyGate, IsBehindGate, IsFilled, MayOpen, Stands}
+use Rattle.chew_spec_slots.specs.Keep.{Keep, acknowledged_state, advanced, checkpoint_in, is_shut, left_state, opened, other, with_seq, with_shut}
 use Rattle.chew_spec_slots.specs.Reading.{SlotReading, Shut, Open, Faulty, is_surely_shut, slot_reading}
-use Rattle.chew_spec_slots.specs.Slot.{Checkpoint, Saved, length_limit, open_gate}
+use Rattle.chew_spec_slots.specs.Slot.{Saved, length_limit, open_gate}
 use Rattle.chew_spec_slots.proofs.Steps.{IsSame, behind-misses, other-apart, refit, same-settled, syncs-same}
-use Rattle.chew_spec_slots.proofs.Targets.{shut-gate}
 
 -- the gates that are surely shut
 pub with_shut-own : (keep : Keep) (shut : Bool) (slot : ℕ) → slot < 2 → is_shut (with_shut keep slot shut) slot ≡ shut
@@ -24,14 +23,14 @@ with_shut-other keep shut (suc zero) low = refl
 with_shut-other keep shut (suc (suc n)) low = absurd (omega arith)
 
 -- a gate that was shut and synced
-pub fits-shut : (keep : Keep) (before after : DiskState) → Fits keep before → IsDisk before → is_shut keep keep.target ≡ false
+pub fits-shut : (keep : Keep) (before after : DiskState) → Fits keep before → is_shut keep keep.target ≡ false
     → slice_index (before.reads keep.target) 0 ≢ open_gate → 1 ≤ length (before.reads keep.target) → Syncs keep.target before after
-    → Fits (with_shut keep keep.target true) after
-fits-shut keep before after fits disk is gate some syncs =
-    let any = fits.unsure is (before.reads keep.target) (disk.reads_may_be_left keep.target) in
+    → IsDisk after → Fits (with_shut keep keep.target true) after
+fits-shut keep before after fits is gate some syncs is_after =
+    let any = fits.unsure is (before.reads keep.target) (fits.is_disk.reads_may_be_left keep.target) in
     let behind : IsBehindGate (after.reads keep.target) =
     subst (λ list. IsBehindGate list) (sym (syncs.reads keep.target)) (record { gate = some; shut = gate; fits = any.fits }) in
-    refit keep true before after fits (syncs-same keep.target (other keep.target) before after syncs (other-apart keep.target fits.target))
+    refit keep true before after fits is_after (syncs-same keep.target (other keep.target) before after syncs (other-apart keep.target fits.target))
     (with_shut-other keep true keep.target fits.target)
     (record {
       shut = λ also list left. subst (λ l. IsBehindGate l) (sym ((syncs.settled list).0 left)) behind;
@@ -41,16 +40,16 @@ fits-shut keep before after fits disk is gate some syncs =
     })
 
 -- a gate that is to be lifted over a checkpoint that can't be lost
-pub fits-unsure : (keep : Keep) (disk : DiskState) (saved : Saved) → Fits keep disk → IsDisk disk → IsFilled keep disk saved → Fits (with_shut keep keep.target false) disk
-fits-unsure keep disk saved fits is filled =
-    let behind = fits.shut filled.shut (disk.reads keep.target) (is.reads_may_be_left keep.target) in
-    refit keep false disk disk fits (record { reads = refl; outcomes = λ list. (λ h. h, λ h. h) })
+pub fits-unsure : (keep : Keep) (disk : DiskState) (saved : Saved) → Fits keep disk → IsFilled keep disk saved → Fits (with_shut keep keep.target false) disk
+fits-unsure keep disk saved fits filled =
+    let behind = fits.shut filled.shut (disk.reads keep.target) (fits.is_disk.reads_may_be_left keep.target) in
+    refit keep false disk disk fits fits.is_disk (record { reads = refl; outcomes = λ list. (λ h. h, λ h. h) })
     (with_shut-other keep false keep.target fits.target)
     (record {
       shut = λ also. absurd (true≢false (sym also ∙ with_shut-own keep false keep.target fits.target));
       unsure = λ unsure list left. subst (λ l. IsAnyGate (disk.reads keep.target) l) (sym ((filled.settled list).0 left)) (record { behind = refl; fits = behind.fits });
       opens = λ unsure. subst (λ r. MayOpen (with_shut keep keep.target false) r) (sym filled.opens) (inr filled.next);
-      old = (disk.reads keep.target, is.reads_may_be_left keep.target, behind-misses (with_shut keep keep.target false) (disk.reads keep.target) behind);
+      old = (disk.reads keep.target, fits.is_disk.reads_may_be_left keep.target, behind-misses (with_shut keep keep.target false) (disk.reads keep.target) behind);
     })
 
 -- a list with an open gate
@@ -147,18 +146,19 @@ retired-any keep disk slot old list left =
     subst (λ l. IsAnyGate (disk.reads slot) l) (sym ((old.settled list).0 left)) (record { behind = refl; fits = old.fits })
 
 -- a gate that was lifted and synced
-pub fits-advanced : (keep : Keep) (before after : DiskState) (saved : Saved) → Fits keep before → IsDisk before → is_shut keep keep.target ≡ false
+pub fits-advanced : (keep : Keep) (before after : DiskState) (saved : Saved) → Fits keep before → is_shut keep keep.target ≡ false
     → slice_index (before.reads keep.target) 0 ≡ open_gate → 1 ≤ length (before.reads keep.target)
-    → slot_reading (opened (before.reads keep.target)) ≡ Open saved → saved.seq ≡ keep.seq + 1 → Syncs keep.target before after → Fits (advanced keep) after
-fits-advanced keep before after saved fits disk is gate some opens next syncs =
+    → slot_reading (opened (before.reads keep.target)) ≡ Open saved → saved.seq ≡ keep.seq + 1 → Syncs keep.target before after → IsDisk after → Fits (advanced keep) after
+fits-advanced keep before after saved fits is gate some opens next syncs is_after =
     let t = keep.target in
     let low = fits.target in
     let back : t ≡ other (other t) = omega arith in
     let reads : after.reads t ≡ before.reads t = syncs.reads t in
     let reading : slot_reading (after.reads t) ≡ Open saved = ap slot_reading (reads ∙ sym (opened-same (before.reads t) some gate)) ∙ opens in
-    let any = fits.unsure is (before.reads t) (disk.reads_may_be_left t) in
+    let any = fits.unsure is (before.reads t) (fits.is_disk.reads_may_be_left t) in
     let old = retire keep before after fits (syncs-same t (other t) before after syncs (other-apart t low)) in
     record {
+      is_disk = is_after;
       target = omega arith;
       apart = back;
       settled = subst (λ (s : ℕ). IsSettled after s) back syncs.settled;

@@ -1,14 +1,14 @@
 -- A crash may leave the acknowledged state.
-use Rattle.std.specs.Prelude.{◌≡◌, ◌⊎◌, ℕ, zero, suc, ◌+◌, ◌-◌, ◌<◌, ◌≤◌, Bool, true, false, List, length, Option, refl}
-use Rattle.std.proofs.Common.{arith, inl, sym, ap, ◌∙◌}
+use Rattle.std.specs.Prelude.{ℕ, zero, suc, ◌<◌, ◌≤◌, List, length, Option, refl}
+use Rattle.std.proofs.Common.{arith, ap, ◌∙◌}
 use Rattle.chew_spec_disk.specs.Disk.{DiskState}
 use Rattle.chew_spec_disk.specs.Moments.{NowMayLeave}
 use Rattle.chew_spec_disk.specs.Sync.{IsSettled}
 use Rattle.chew_spec_slots.specs.Fits.{DoesNotCount, Fits, IsApart, RecoversTo, RecoversToOld, Stands}
 use Rattle.chew_spec_slots.specs.Keep.{Keep, is_shut, other}
 use Rattle.chew_spec_slots.specs.Reading.{SlotReading, Shut, Open, Faulty, slot_reading}
-use Rattle.chew_spec_slots.specs.Recovery.{Recovered, recovered}
-use Rattle.chew_spec_slots.specs.Slot.{Checkpoint, length_limit}
+use Rattle.chew_spec_slots.specs.Recovery.{Recovered}
+use Rattle.chew_spec_slots.specs.Slot.{length_limit}
 use Rattle.chew_spec_slots.proofs.Fitting.{acknowledged-by, leaves-target}
 use Rattle.chew_spec_slots.proofs.Readings.{Misses, old-one, old-zero, recovered-fits, state_of}
 

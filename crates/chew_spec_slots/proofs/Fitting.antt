@@ -1,15 +1,15 @@
 -- What two slots recover to where what is known of them fits the disk.
-use Rattle.std.specs.Prelude.{◌≡◌, ◌≢◌, ◌⊎◌, ℕ, zero, suc, ◌+◌, ◌-◌, ◌<◌, ◌≤◌, Bool, true, false, ◌==◌, nat_le, List, length, drop, cond, Option, Some, None, IsSomeAnd, refl}
+use Rattle.std.specs.Prelude.{◌≡◌, ◌⊎◌, ℕ, zero, suc, ◌+◌, ◌<◌, ◌≤◌, Bool, true, false, List, length, cond, Option, Some, None, IsSomeAnd, refl}
 use Rattle.std.proofs.Common.{arith, eqb, inl, inr, sym, ap, ◌∙◌, subst, ⊎_elim}
 use Rattle.std.proofs.lemmas.Bool.Decides.{nat_tests}
 use Rattle.chew_spec_disk.specs.Disk.{DiskState}
 use Rattle.chew_spec_disk.specs.Moments.{NowLeaves}
 use Rattle.chew_spec_disk.specs.Sync.{IsSettled}
-use Rattle.chew_spec_slots.specs.Fits.{DoesNotCount, Fits, IsAnyGate, IsApart, IsBehindGate, Loses, MayOpen, RecoversTo, RecoversToOldOrLeft, Stands}
-use Rattle.chew_spec_slots.specs.Keep.{Keep, acknowledged_state, checkpoint_in, is_shut, left_state, opened, other, slot_checkpoint, with_seq}
+use Rattle.chew_spec_slots.specs.Fits.{Fits, IsAnyGate, IsApart, IsBehindGate, MayOpen, RecoversTo, RecoversToOldOrLeft, Stands}
+use Rattle.chew_spec_slots.specs.Keep.{Keep, checkpoint_in, is_shut, left_state, opened, other, slot_checkpoint, with_seq}
 use Rattle.chew_spec_slots.specs.Reading.{SlotReading, Shut, Open, Faulty, slot_reading}
 use Rattle.chew_spec_slots.specs.Recovery.{Recovered, recovered}
-use Rattle.chew_spec_slots.specs.Slot.{Checkpoint, Saved, length_limit, no_checkpoint}
+use Rattle.chew_spec_slots.specs.Slot.{Checkpoint, Saved, length_limit}
 use Rattle.chew_spec_slots.proofs.Readings.{Misses, by_readings, next-one, next-zero, old-one, old-zero, recovered-fits, state_of}
 use Rattle.chew_spec_slots.proofs.Targets.{any-gate, shut-gate}
 

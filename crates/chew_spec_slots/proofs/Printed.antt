@@ -1,18 +1,18 @@
 -- A slot that is printed reads as what it was printed for, whatever follows it.
-use Rattle.std.specs.Prelude.{◌≡◌, ℕ, ◌+◌, ◌-◌, ◌*◌, ◌^◌, ◌<◌, ◌≤◌, Bool, true, false, ◌&&◌, ◌==◌, nat_le, bytes_eq, List, [], ◌∷◌, ◌++◌, length, take, drop, slice_index, cond, min, Option, Some, None, Result, Ok, Err, refl}
+use Rattle.std.specs.Prelude.{◌≡◌, ℕ, ◌+◌, ◌-◌, ◌*◌, ◌^◌, ◌<◌, ◌≤◌, Bool, true, false, ◌&&◌, ◌==◌, nat_le, bytes_eq, List, ◌∷◌, ◌++◌, length, take, drop, cond, Option, Some, None, Result, Ok, Err, refl}
 use Rattle.std.specs.Int.{w64, to_le_bytes, from_le_bytes}
-use Rattle.std.proofs.Common.{arith, sym, ap, ap₂, ◌∙◌, subst, append_assoc, length-append, true≢false}
+use Rattle.std.proofs.Common.{arith, sym, ap, ap₂, ◌∙◌, append_assoc, length-append}
 use Rattle.std.proofs.lemmas.Bool.Decides.{nat_tests}
 use Rattle.std.proofs.lemmas.List.{drop-drop, drop_at, length-drop, take_at}
 use Rattle.std.proofs.lemmas.Nat.{from_le_bytes-to_le_bytes_8}
 use Rattle.std.proofs.lemmas.Slice.Eq.{bytes_eq-Decides}
 use Rattle.sha2.proofs.Facts256.{length-sha256}
 use Rattle.chew_spec_syllable.specs.Row.{Row}
-use Rattle.chew_spec_image.specs.Fields.{Counts, magic as image_magic, u64_at}
+use Rattle.chew_spec_image.specs.Fields.{Counts, u64_at}
 use Rattle.chew_spec_image.specs.Image.{image}
 use Rattle.chew_spec_image.specs.ReadNodes.{checked, unless_fault}
 use Rattle.chew_spec_image.specs.Reading.{counts_fault, counts_in, header_fault, image_end, image_reading, keys_due, rows_for}
-use Rattle.chew_spec_slots.specs.Reading.{SlotReading, Open, as_open, digest_fault, digest_in, digested, image_in, image_len, is_open, life_in, plain_fault, saved_as, saved_in, seq_in, slot_reading}
+use Rattle.chew_spec_slots.specs.Reading.{SlotReading, Open, as_open, digest_fault, digest_in, digested, image_in, image_len, life_in, plain_fault, saved_as, saved_in, seq_in, slot_reading}
 use Rattle.chew_spec_slots.specs.Slot.{IsSaved, Saved, body, digest, digest_magic, fields, magic, open_gate, plain_slot, rows_limit, slot}
 
 -- the eight bytes from a place on, and what follows them

@@ -1,11 +1,11 @@
 -- What two slots recover to, by how each reads.
-use Rattle.std.specs.Prelude.{◌≡◌, ◌⊎◌, ℕ, zero, suc, ◌+◌, ◌-◌, ◌<◌, ◌≤◌, Bool, true, false, ◌==◌, nat_le, nat_lt, List, length, cond, Option, Some, None, refl}
-use Rattle.std.proofs.Common.{arith, inl, inr, sym, ap, ap₂, ◌∙◌, subst, ⊎_elim}
+use Rattle.std.specs.Prelude.{◌≡◌, ◌⊎◌, ℕ, ◌+◌, ◌<◌, ◌≤◌, true, false, ◌==◌, nat_le, nat_lt, List, length, cond, Option, Some, None, refl}
+use Rattle.std.proofs.Common.{arith, ap, ap₂, ⊎_elim}
 use Rattle.std.proofs.lemmas.Bool.Decides.{nat_tests}
-use Rattle.chew_spec_slots.specs.Fits.{DoesNotCount, IsApart, Loses, Stands}
-use Rattle.chew_spec_slots.specs.Keep.{Keep, checkpoint_in, other}
+use Rattle.chew_spec_slots.specs.Fits.{IsApart, Stands}
+use Rattle.chew_spec_slots.specs.Keep.{checkpoint_in}
 use Rattle.chew_spec_slots.specs.Reading.{SlotReading, Shut, Open, Faulty, slot_reading}
-use Rattle.chew_spec_slots.specs.Recovery.{Newest, Recovery, Recovered, checkpoint_of, damage, newest, recovered, refusal, unless_refused}
+use Rattle.chew_spec_slots.specs.Recovery.{Recovery, Recovered, checkpoint_of, damage, newest, recovered, refusal, unless_refused}
 use Rattle.chew_spec_slots.specs.Slot.{Checkpoint, Saved, length_limit, no_checkpoint}
 
 -- what readings recover to

@@ -1,9 +1,9 @@
 -- The states that are kept over a device call.
-use Rattle.std.specs.Prelude.{◌≡◌, ◌⊎◌, ℕ, ◌+◌, ◌-◌, ◌<◌, Bool, true, false, List, ◌∷◌, cond, drop, Option, Some, None, IsSomeAnd, refl}
-use Rattle.std.proofs.Common.{arith, inl, inr, sym, ap, ap₂, ◌∙◌, subst, ⊎_elim}
+use Rattle.std.specs.Prelude.{◌≡◌, ◌⊎◌, ℕ, ◌+◌, true, List, ◌∷◌, cond, drop, Option, Some, None, IsSomeAnd, refl}
+use Rattle.std.proofs.Common.{inl, inr, sym, ap, ◌∙◌, subst, ⊎_elim}
 use Rattle.chew_spec_disk.specs.Disk.{DiskState}
 use Rattle.chew_spec_disk.specs.Moments.{NowLeaves}
-use Rattle.chew_spec_slots.specs.Fits.{Fits, IsApart, RecoversTo, RecoversToOld, RecoversToOldOrLeft}
+use Rattle.chew_spec_slots.specs.Fits.{Fits, IsApart, RecoversTo, RecoversToOldOrLeft}
 use Rattle.chew_spec_slots.specs.Keep.{Keep, acknowledged_state, checkpoint_in, is_shut, left_state, opened, other, slot_checkpoint, with_seq}
 use Rattle.chew_spec_slots.specs.Reading.{slot_reading}
 use Rattle.chew_spec_slots.specs.Recovery.{Recovered}

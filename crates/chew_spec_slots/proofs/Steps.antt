@@ -1,15 +1,14 @@
 -- What is known of the slots fits the disk after each device call.
-use Rattle.std.specs.Prelude.{◌≡◌, ◌≢◌, ◌⊎◌, ℕ, zero, suc, ◌+◌, ◌-◌, ◌<◌, ◌≤◌, max, Bool, true, false, ◌==◌, List, [], ◌∷◌, length, drop, slice_index, cond, Option, Some, None, ◌↔◌, refl}
-use Rattle.std.proofs.Common.{arith, eqb, get_or, inl, inr, sym, ap, ap₂, ◌∙◌, subst, true≢false, ⊎_elim}
+use Rattle.std.specs.Prelude.{◌≡◌, ◌≢◌, ℕ, ◌+◌, ◌<◌, ◌≤◌, Bool, true, false, List, ◌∷◌, length, drop, ◌↔◌, refl}
+use Rattle.std.proofs.Common.{arith, inl, inr, sym, ap, ◌∙◌, subst, true≢false}
 use Rattle.std.proofs.lemmas.List.{ext_get_or, get_or-drop, length-drop}
-use Rattle.std.proofs.lemmas.Bool.Decides.{nat_tests}
 use Rattle.chew_spec_disk.specs.Disk.{DiskState, IsDisk, Stays}
 use Rattle.chew_spec_disk.specs.Sync.{IsSettled, Syncs}
-use Rattle.chew_spec_disk.specs.Write.{Holds, Torn, Writes, Wrote}
-use Rattle.chew_spec_slots.specs.Fits.{DoesNotCount, Fits, IsAnyGate, IsApart, IsBehindGate, Loses, MayOpen, Stands}
-use Rattle.chew_spec_slots.specs.Keep.{Keep, acknowledged_state, checkpoint_in, is_shut, left_state, opened, other, slot_checkpoint, with_seq, with_shut}
-use Rattle.chew_spec_slots.specs.Reading.{SlotReading, Shut, Open, Faulty, is_surely_shut, slot_reading}
-use Rattle.chew_spec_slots.specs.Slot.{Checkpoint, Saved, length_limit, open_gate}
+use Rattle.chew_spec_disk.specs.Write.{Torn, Writes}
+use Rattle.chew_spec_slots.specs.Fits.{DoesNotCount, Fits, IsAnyGate, IsBehindGate, MayOpen, Stands}
+use Rattle.chew_spec_slots.specs.Keep.{Keep, is_shut, opened, other, with_shut}
+use Rattle.chew_spec_slots.specs.Reading.{is_surely_shut, slot_reading}
+use Rattle.chew_spec_slots.specs.Slot.{length_limit, open_gate}
 use Rattle.chew_spec_slots.proofs.Targets.{shut-gate}
 
 -- the other slot is another
@@ -33,10 +32,11 @@ pub record FitsTarget (keep : Keep) (disk : DiskState) : Type 0 where
   pub old : (list : List ℕ) × disk.may_leave keep.target list × DoesNotCount keep (slot_reading list)
 
 -- where the slot that counts was left alone, only the target has to fit
-pub refit : (keep : Keep) (shut : Bool) (before after : DiskState) → Fits keep before → IsSame (other keep.target) before after
+pub refit : (keep : Keep) (shut : Bool) (before after : DiskState) → Fits keep before → IsDisk after → IsSame (other keep.target) before after
     → is_shut (with_shut keep keep.target shut) (other keep.target) ≡ is_shut keep (other keep.target)
     → FitsTarget (with_shut keep keep.target shut) after → Fits (with_shut keep keep.target shut) after
-refit keep shut before after fits same gate target = record {
+refit keep shut before after fits is same gate target = record {
+  is_disk = is;
   target = fits.target;
   apart = fits.apart;
   settled = same-settled (other keep.target) before after same fits.settled;
@@ -49,8 +49,9 @@ refit keep shut before after fits same gate target = record {
   old = target.old;
 }
 
-refit-same : (keep : Keep) (before after : DiskState) → Fits keep before → IsSame (other keep.target) before after → FitsTarget keep after → Fits keep after
-refit-same keep before after fits same target = record {
+refit-same : (keep : Keep) (before after : DiskState) → Fits keep before → IsDisk after → IsSame (other keep.target) before after → FitsTarget keep after → Fits keep after
+refit-same keep before after fits is same target = record {
+  is_disk = is;
   target = fits.target;
   apart = fits.apart;
   settled = same-settled (other keep.target) before after same fits.settled;
@@ -73,9 +74,9 @@ pub syncs-same : (slot each : ℕ) (before after : DiskState) → Syncs slot bef
 syncs-same slot each before after syncs apart = record { reads = syncs.reads each; outcomes = λ list. syncs.other_outcomes each list apart }
 
 -- a call that changed nothing
-pub fits-stays : (keep : Keep) (before after : DiskState) → Fits keep before → Stays before after → Fits keep after
-fits-stays keep before after fits stays =
-    refit-same keep before after fits (stays-same (other keep.target) before after stays) (record {
+pub fits-stays : (keep : Keep) (before after : DiskState) → Fits keep before → Stays before after → IsDisk after → Fits keep after
+fits-stays keep before after fits stays is_after =
+    refit-same keep before after fits is_after (stays-same (other keep.target) before after stays) (record {
       shut = λ is list left. fits.shut is list ((stays.outcomes keep.target list).0 left);
       unsure = λ is list left. subst (λ reads. IsAnyGate reads list) (sym (stays.reads keep.target)) (fits.unsure is list ((stays.outcomes keep.target list).0 left));
       opens = λ is. subst (λ reads. MayOpen keep (slot_reading (opened reads))) (sym (stays.reads keep.target)) (fits.opens is);
@@ -98,10 +99,10 @@ torn-self : (at n : ℕ) (list : List ℕ) → Torn at n list list
 torn-self at n list = record { no_shorter = omega arith; no_longer = omega arith; same = λ k low apart. refl }
 
 -- a gate that is written where it isn't sure
-pub fits-gate : (keep : Keep) (before after : DiskState) → Fits keep before → is_shut keep keep.target ≡ false → Writes keep.target 0 1 before after → Fits keep after
-fits-gate keep before after fits unsure writes =
+pub fits-gate : (keep : Keep) (before after : DiskState) → Fits keep before → is_shut keep keep.target ≡ false → Writes keep.target 0 1 before after → IsDisk after → Fits keep after
+fits-gate keep before after fits unsure writes is_after =
     let reads : drop 1 (after.reads keep.target) ≡ drop 1 (before.reads keep.target) = torn-gate (before.reads keep.target) (after.reads keep.target) writes.read in
-    refit-same keep before after fits (writes-same keep.target 0 1 (other keep.target) before after writes (other-apart keep.target fits.target)) (record {
+    refit-same keep before after fits is_after (writes-same keep.target 0 1 (other keep.target) before after writes (other-apart keep.target fits.target)) (record {
       shut = λ is. absurd (true≢false (sym is ∙ unsure));
       unsure = λ is list left.
           let torn = (writes.outcomes list).0 left in
@@ -125,9 +126,9 @@ torn-behind n old new torn fits behind = record {
 pub behind-misses : (keep : Keep) (list : List ℕ) → IsBehindGate list → DoesNotCount keep (slot_reading list)
 behind-misses keep list behind = subst (λ r. DoesNotCount keep r) (sym (shut-gate list behind.shut)) tt
 
-pub fits-body : (keep : Keep) (n : ℕ) (before after : DiskState) → Fits keep before → is_shut keep keep.target ≡ true → 1 + n ≤ length_limit → Writes keep.target 1 n before after → Fits keep after
-fits-body keep n before after fits is room writes =
-    refit-same keep before after fits (writes-same keep.target 1 n (other keep.target) before after writes (other-apart keep.target fits.target)) (record {
+pub fits-body : (keep : Keep) (n : ℕ) (before after : DiskState) → Fits keep before → is_shut keep keep.target ≡ true → 1 + n ≤ length_limit → Writes keep.target 1 n before after → IsDisk after → Fits keep after
+fits-body keep n before after fits is room writes is_after =
+    refit-same keep before after fits is_after (writes-same keep.target 1 n (other keep.target) before after writes (other-apart keep.target fits.target)) (record {
       shut = λ also list left.
           let torn = (writes.outcomes list).0 left in
           torn-behind n torn.0 list torn.2 room (fits.shut is torn.0 torn.1);
@@ -137,11 +138,11 @@ fits-body keep n before after fits is room writes =
     })
 
 -- a sync behind a gate that is surely shut
-pub fits-synced : (keep : Keep) (before after : DiskState) → Fits keep before → IsDisk before → is_shut keep keep.target ≡ true → Syncs keep.target before after → Fits keep after
-fits-synced keep before after fits disk is syncs =
-    let reads = fits.shut is (before.reads keep.target) (disk.reads_may_be_left keep.target) in
+pub fits-synced : (keep : Keep) (before after : DiskState) → Fits keep before → is_shut keep keep.target ≡ true → Syncs keep.target before after → IsDisk after → Fits keep after
+fits-synced keep before after fits is syncs is_after =
+    let reads = fits.shut is (before.reads keep.target) (fits.is_disk.reads_may_be_left keep.target) in
     let behind : IsBehindGate (after.reads keep.target) = subst (λ list. IsBehindGate list) (sym (syncs.reads keep.target)) reads in
-    refit-same keep before after fits (syncs-same keep.target (other keep.target) before after syncs (other-apart keep.target fits.target)) (record {
+    refit-same keep before after fits is_after (syncs-same keep.target (other keep.target) before after syncs (other-apart keep.target fits.target)) (record {
       shut = λ also list left. subst (λ l. IsBehindGate l) (sym ((syncs.settled list).0 left)) behind;
       unsure = λ unsure. absurd (true≢false (sym is ∙ unsure));
       opens = λ unsure. absurd (true≢false (sym is ∙ unsure));

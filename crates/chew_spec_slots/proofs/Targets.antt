@@ -1,11 +1,10 @@
 -- How the lists read that a crash may leave of a target.
-use Rattle.std.specs.Prelude.{◌≡◌, ◌≢◌, ◌⊎◌, ℕ, zero, suc, ◌+◌, ◌-◌, ◌<◌, ◌≤◌, Bool, true, false, ◌&&◌, ◌==◌, nat_le, List, [], ◌∷◌, length, drop, slice_index, cond, refl}
-use Rattle.std.proofs.Common.{arith, eqb, inl, inr, sym, ap, ap₂, ◌∙◌, subst, ⊎_elim}
+use Rattle.std.specs.Prelude.{◌≡◌, ◌≢◌, ◌⊎◌, ℕ, ◌<◌, Bool, true, false, ◌&&◌, ◌==◌, nat_le, List, [], ◌∷◌, length, drop, slice_index, cond, refl}
+use Rattle.std.proofs.Common.{arith, eqb, inl, inr, ap, ap₂, ⊎_elim}
 use Rattle.std.proofs.lemmas.Bool.{cases_eq}
 use Rattle.std.proofs.lemmas.Bool.Decides.{nat_tests}
-use Rattle.chew_spec_slots.specs.Fits.{IsAnyGate, IsBehindGate}
 use Rattle.chew_spec_slots.specs.Keep.{opened}
-use Rattle.chew_spec_slots.specs.Reading.{SlotReading, Shut, Open, Faulty, as_open, is_open, saved_in, slot_reading}
+use Rattle.chew_spec_slots.specs.Reading.{Shut, as_open, saved_in, slot_reading}
 use Rattle.chew_spec_slots.specs.Slot.{open_gate}
 
 and-false : (a b : Bool) → b ≡ false → (a && b) ≡ false

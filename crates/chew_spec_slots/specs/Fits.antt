@@ -1,6 +1,6 @@
 -- When what is known of the slots fits a disk, so that no crash leaves a slot open and damaged.
 use Rattle.std.specs.Prelude.{◌≡◌, ◌≢◌, ◌⊎◌, ℕ, ◌+◌, ◌<◌, ◌≤◌, true, false, List, length, drop, slice_index, Option, Some, None, IsSomeAnd}
-use Rattle.chew_spec_disk.specs.Disk.{DiskState}
+use Rattle.chew_spec_disk.specs.Disk.{DiskState, IsDisk}
 use Rattle.chew_spec_disk.specs.Sync.{IsSettled}
 use Rattle.chew_spec_slots.specs.Keep.{Keep, acknowledged_state, is_shut, left_state, opened, other}
 use Rattle.chew_spec_slots.specs.Reading.{SlotReading, Shut, Open, Faulty, is_surely_shut, slot_reading}
@@ -48,6 +48,7 @@ DoesNotCount keep (Faulty place) = ⊥
 
 -- what is known of the slots fits what a disk tells
 pub record Fits (keep : Keep) (disk : DiskState) : Type 0 where
+  pub is_disk : IsDisk disk
   pub target : keep.target < 2
   pub apart : IsApart keep.acknowledged keep.target keep.seq
   -- the slot that counts can't be lost

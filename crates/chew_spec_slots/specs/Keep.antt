@@ -3,7 +3,7 @@ use Rattle.std.specs.Prelude.{ℕ, ◌+◌, ◌-◌, Bool, false, ◌==◌, List
 use Rattle.chew_spec_disk.specs.Disk.{DiskState}
 use Rattle.chew_spec_slots.specs.Reading.{SlotReading, Shut, Open, Faulty, is_surely_shut, slot_reading}
 use Rattle.chew_spec_slots.specs.Recovery.{Newest, newest}
-use Rattle.chew_spec_slots.specs.Slot.{Checkpoint, Saved, no_checkpoint, open_gate}
+use Rattle.chew_spec_slots.specs.Slot.{Checkpoint, no_checkpoint, open_gate}
 
 pub record Keep : Type 0 where
   -- the slot that counts, where one does, and its seq; 0 where none does

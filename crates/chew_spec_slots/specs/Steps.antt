@@ -1,5 +1,5 @@
 -- What the three steps of a checkpoint do: the target's gate is shut, its body filled, and its gate lifted.
-use Rattle.std.specs.Prelude.{◌≡◌, ◌⊎◌, ℕ, ◌+◌, ◌<◌, List, None, Some, Result, MatchResult, OnOk}
+use Rattle.std.specs.Prelude.{◌≡◌, ◌⊎◌, ◌+◌, ◌<◌, None, Some, Result, MatchResult, OnOk}
 use Rattle.chew_spec_disk.specs.Disk.{DiskState, last_moment}
 use Rattle.chew_spec_disk.specs.Moments.{AlwaysLeft, AlwaysMightLeave, NowLeaves}
 use Rattle.chew_spec_slots.specs.Fits.{Fits, IsFilled, RecoversTo, RecoversToOld, RecoversToOldOrLeft}

@@ -1,3 +1,5 @@
 //! Laws of the definitions.
 
+mod crashes;
 mod recovery;
+mod slots;
