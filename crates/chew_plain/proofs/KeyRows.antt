@@ -20,8 +20,8 @@ use Rattle.chew_spec_dictionary.specs.System.{is_under, rows_under, row_of}
 use Rattle.chew_spec_dictionary.proofs.ImageOrder.{image_total}
 use Rattle.chew_spec_dictionary.proofs.Once.{map_in_order}
 use Rattle.chew_spec_dictionary.proofs.Sorting.{NoneBelow, Rises, less, rises_in_order}
-use Rattle.chew_plain.specs.Order.{key_cmp}
-use Rattle.chew_plain.proofs.Orders.{key_total, pair_cmp_parts}
+use Rattle.chew_plain.specs.Order.{key_cmp, key_total}
+use Rattle.chew_plain.proofs.Orders.{pair_cmp_parts}
 
 -- the rows of a map rise
 rows_rise : (rows : List Row) → is_map rows ≡ true → Rises (less image_cmp) rows
@@ -41,7 +41,7 @@ keys_first row other e = by (key_cmp row.key other.key) (sym (ap is_lt (pair_cmp
     by Greater h = refl
 
 -- keys of which neither is less are equal
-keys_equal : (key other : List ℕ) → key_less key other ≡ false → key_less other key ≡ false → key ≡ other
+pub keys_equal : (key other : List ℕ) → key_less key other ≡ false → key_less other key ≡ false → key ≡ other
 keys_equal key other a b = exact_bytes key other (by_then (nat_cmp (length key) (length other)) (tied (key_cmp key other) a (sym (ap is_lt (key_total.antisymm other key)) ∙ b)))
   where
     tied : (o : Ordering) → is_lt o ≡ false → is_lt (ordering_reverse o) ≡ false → o ≡ Equal
@@ -62,7 +62,7 @@ keys_equal key other a b = exact_bytes key other (by_then (nat_cmp (length key) 
 key_apart : (key other : List ℕ) → key_less key other ≡ true → bytes_eq key other ≡ false
 key_apart key other l = false_from_ne_true _ (λ e. true≢false (sym l ∙ ap (key_less key) (sym ((bytes_eq-Decides key other).0 e)) ∙ ap is_lt (tied_itself key_total key)))
 
-key_apart_back : (key other : List ℕ) → key_less other key ≡ true → bytes_eq key other ≡ false
+pub key_apart_back : (key other : List ℕ) → key_less other key ≡ true → bytes_eq key other ≡ false
 key_apart_back key other l = false_from_ne_true _ (λ e. true≢false (sym l ∙ ap (key_less other) ((bytes_eq-Decides key other).0 e) ∙ ap is_lt (tied_itself key_total other)))
 
 -- no row behind one that rises is below it

@@ -1,3 +1,4 @@
+pub mod ByKey
 pub mod KeyRows
 pub mod Looks
 pub mod Orders

@@ -1,11 +1,11 @@
 -- The hits of a run, put together from those of its intervals.
-use Rattle.std.proofs.Common.{◌≡◌, ℕ, zero, suc, ◌+◌, ◌-◌, ◌≤◌, ◌<◌, List, [], ◌∷◌, ◌++◌, length, take, drop, map, flat_map, min, get_or, refl, ap, ap₂, sym, ◌∙◌, subst, append_assoc, append-nil, arith}
+use Rattle.std.proofs.Common.{◌≡◌, ℕ, zero, suc, ◌+◌, ◌-◌, ◌≤◌, ◌<◌, List, [], ◌∷◌, ◌++◌, length, take, drop, map, flat_map, get_or, refl, ap, ap₂, sym, ◌∙◌, subst, append_assoc, append-nil, arith}
 use Rattle.std.specs.List.{All, range_with_len}
 use Rattle.std.proofs.lemmas.List.{length-take, length-drop, take_more}
 use Rattle.std.proofs.lemmas.Grind.{flat_map-append}
 use Rattle.chew_spec_syllable.specs.Row.{Row}
 use Rattle.chew_spec_dictionary.specs.Call.{Hit}
-use Rattle.chew_spec_dictionary.specs.Look.{hit_of, hits_of, shown_cmp, shown_hit_cmp}
+use Rattle.chew_spec_dictionary.specs.Look.{Interval, codes_at, hit_of, shown_cmp, shown_hit_cmp}
 use Rattle.chew_spec_dictionary.specs.Order.{in_order}
 use Rattle.chew_spec_dictionary.specs.System.{rows_under}
 use Rattle.chew_spec_dictionary.proofs.Sorting.{in_order_map}
@@ -17,17 +17,21 @@ pub keys_as_long : (rows found : List Row) (key : List ℕ) (len : ℕ) → foun
 keys_as_long rows found key len e long = subst (All (λ (row : Row). length row.key ≡ len)) (sym e) (λ i d l. ap length (all_have_key key rows i d l) ∙ long)
 
 -- the syllables of an interval are as many as its length says
-pub interval_long : (run : List ℕ) (start len : ℕ) → start + len ≤ length run → length (take (start + len - start) (drop start run)) ≡ len
-interval_long run start len inside = omega (arith, length-take (start + len - start) (drop start run), length-drop start run)
+pub interval_long : (run : List ℕ) (at : Interval) → at.start + at.len ≤ length run → length (codes_at run at) ≡ at.len
+interval_long run at inside = omega (arith, length-take at.len (drop at.start run), length-drop at.start run)
+
+-- a slice of a run has the syllables of the interval
+pub slice_codes : (run : List ℕ) (start len : ℕ) (at : Interval) → interval start len ≡ at → take (start + len - start) (drop start run) ≡ codes_at run at
+slice_codes run start len at e =
+    ap (λ (n : ℕ). take n (drop start run)) (let s : start + len - start ≡ len = omega arith in s)
+    ∙ ap (codes_at run) e
 
 -- the rows of an interval as hits, sorted, are its hits
-pub shown_hits : (rows found : List Row) (run : List ℕ) (start len : ℕ) (shown sorted : List Hit)
-    → found ≡ rows_under rows (take (start + len - start) (drop start run))
-    → shown ≡ map (hit_of (interval start len)) found → sorted ≡ in_order shown_hit_cmp shown
-    → sorted ≡ hits_at rows run (interval start len)
-shown_hits rows found run start len shown sorted f s o =
-    o ∙ ap (in_order shown_hit_cmp) (s ∙ ap (map (hit_of (interval start len))) (f ∙ ap (λ (n : ℕ). rows_under rows (take n (drop start run))) (let e : start + len - start ≡ len = omega arith in e)))
-    ∙ in_order_map (hit_of (interval start len)) shown_cmp shown_hit_cmp (λ x y. refl) (rows_under rows (take len (drop start run)))
+pub shown_hits : (rows found : List Row) (run : List ℕ) (at : Interval) (shown sorted : List Hit) → found ≡ rows_under rows (codes_at run at)
+    → shown ≡ map (hit_of at) found → sorted ≡ in_order shown_hit_cmp shown → sorted ≡ hits_at rows run at
+shown_hits rows found run at shown sorted f s o =
+    o ∙ ap (in_order shown_hit_cmp) (s ∙ ap (map (hit_of at)) f)
+    ∙ in_order_map (hit_of at) shown_cmp shown_hit_cmp (λ x y. refl) (rows_under rows (codes_at run at))
 
 -- one more part: what is there, and the parts to come, stay the same as a whole
 pub part_more : {X : Type 0} (parts : ℕ → List X) (had now whole : List X) (i end : ℕ) → i < end → now ≡ had ++ parts i

@@ -5,7 +5,6 @@ use Rattle.std.specs.Cmp.Lexicographic.{slice_cmp}
 use Rattle.std.specs.Ordering.{ordering_then}
 use Rattle.std.specs.Fn.{Called, ComparesAs}
 use Rattle.std.specs.List.Sorted.{IsSortedBy, IsStableBy}
-use Rattle.std.proofs.lemmas.Cmp.{on_total, then_total, nat_cmp_total, nat_list_cmp_total}
 use Rattle.std.proofs.lemmas.Fn.{always_returns_same}
 use Rattle.std.proofs.lemmas.List.Sorted.{ranks_by}
 use denote.Param.Members.{Mut}
@@ -14,10 +13,6 @@ use Rattle.chew_spec_dictionary.specs.Order.{in_order}
 use Rattle.chew_spec_dictionary.proofs.ImageOrder.{image_parts, then_assoc}
 use Rattle.chew_spec_dictionary.proofs.Sorting.{less, sorted_is_in_order}
 use Rattle.chew_plain.specs.Order.{key_cmp}
-
--- the order of keys is total
-pub key_total : IsTotalOrder key_cmp
-key_total = then_total (on_total (λ (key : List ℕ). length key) nat_cmp_total) nat_list_cmp_total
 
 -- image order is that of the keys, then that of the phrases' bytes
 pub pair_cmp_parts : (key phrase other_key other_phrase : List ℕ) → pair_cmp key phrase other_key other_phrase ≡ ordering_then (key_cmp key other_key) (slice_cmp nat_cmp phrase other_phrase)

@@ -1,13 +1,13 @@
 -- What a learn and a hide come to, by whether the pair is held, is hidden, and finds room.
-use Rattle.std.proofs.Common.{◌≡◌, ℕ, ◌+◌, ◌-◌, ◌≤◌, ◌<◌, ◌^◌, Bool, true, false, cond, not, max, List, [], ◌∷◌, length, refl, ap, ap₂, sym, ◌∙◌, nat_le, if◌then◌else◌, is_some, Some, None, Result, Ok, Err, OnOk, OnErr, arith}
+use Rattle.std.proofs.Common.{◌≡◌, ℕ, ◌+◌, ◌-◌, ◌≤◌, ◌<◌, ◌^◌, Bool, true, false, cond, not, max, List, [], ◌∷◌, length, refl, ap, ap₂, sym, ◌∙◌, nat_le, if◌then◌else◌, is_some, Option, Some, None, Result, Ok, Err, OnOk, OnErr, arith}
 use Rattle.std.proofs.lemmas.Bool.{cond_both, cond-true, cond-false}
 use Rattle.chew_spec_syllable.specs.Row.{Row, is_pair_of}
 use Rattle.chew_spec_dictionary.specs.Frequency.{update}
-use Rattle.chew_spec_dictionary.specs.Call.{Full, NotThere, Forgot, Reply}
+use Rattle.chew_spec_dictionary.specs.Call.{Full, NotThere, Forgot}
 use Rattle.chew_spec_dictionary.specs.Hidden.{is_hidden, shown_rows}
 use Rattle.chew_spec_dictionary.specs.System.{is_under, peak_of, row_of, rows_under}
-use Rattle.chew_spec_dictionary.specs.Dictionary.{Dictionary, first_freq, forget, held_freq, hid, hide, is_map, learn, learned, put_pair, relearned_freq, without}
-use Rattle.chew_spec_dictionary.proofs.Counts.{count_put, missed}
+use Rattle.chew_spec_dictionary.specs.Dictionary.{Dictionary, first_freq, forget, held_freq, hid, hide, is_map, learn, learned, put_pair, put_row, relearned_freq, without}
+use Rattle.chew_spec_dictionary.proofs.Counts.{count_put, count_without, missed}
 use Rattle.chew_spec_dictionary.proofs.Hiding.{hide_of_held, hide_of_new, some_not_none}
 use Rattle.chew_spec_dictionary.proofs.Pairs.{found_first, found_later}
 use Rattle.chew_spec_dictionary.proofs.Learning.{by_forget, learn_of_new}
@@ -88,3 +88,30 @@ module _ (had : Dictionary) (key phrase : List ℕ) where
 pub either_way : {T E : Type 0} {A B C : Type 0} (r : Result T E) → OnOk r A → OnErr r B → (A → C) → (B → C) → C
 either_way (Ok x) a b f g = f a
 either_way (Err e) a b f g = g b
+
+pub on_ok : {T E : Type 0} {A B : Type 0} (r : Result T E) → (A → B) → OnOk r A → OnOk r B
+on_ok (Ok x) f a = f a
+on_ok (Err e) f a = tt
+
+pub on_err : {T E : Type 0} {A B : Type 0} (r : Result T E) → (A → B) → OnErr r A → OnErr r B
+on_err (Ok x) f a = tt
+on_err (Err e) f a = f a
+
+-- one where a test holds
+abbrev pub one_if : Bool → ℕ
+one_if b = cond b 1 0
+
+missed_by : (found : Option Row) (new : Bool) → new ≡ not (is_some found) → missed found ≡ one_if new
+missed_by None new e = ap one_if (sym e)
+missed_by (Some row) new e = ap one_if (sym e)
+
+missed_or_held : (found : Option Row) (held : Bool) → held ≡ is_some found → missed found + one_if held ≡ 1
+missed_or_held None held e = ap (λ b. 1 + one_if b) e
+missed_or_held (Some row) held e = ap (λ b. 0 + one_if b) e
+
+-- how many rows there are once one was put in, and once a pair was taken out
+pub count_grown : (row : Row) (rows : List Row) (new : Bool) → is_map rows ≡ true → new ≡ not (is_some (row_of rows row.key row.phrase)) → length (put_row row rows) ≡ length rows + one_if new
+count_grown row rows new m e = omega (arith, count_put row rows m, missed_by (row_of rows row.key row.phrase) new e)
+
+pub count_shrunk : (key phrase : List ℕ) (rows : List Row) (held : Bool) → is_map rows ≡ true → held ≡ is_some (row_of rows key phrase) → length (without key phrase rows) + one_if held ≡ length rows
+count_shrunk key phrase rows held m e = omega (arith, count_without key phrase rows m, missed_or_held (row_of rows key phrase) held e)

@@ -1,13 +1,12 @@
 -- What is at a pair's place in a map, and what is left once the pair was put in there or taken out.
-use Rattle.std.proofs.Common.{◌≡◌, ℕ, zero, suc, ◌<◌, ◌≤◌, Bool, true, false, cond, ap₂, not, List, [], ◌∷◌, length, get_or, set, refl, ap, sym, ◌∙◌, subst, Ordering, Less, Equal, Greater, is_lt, is_gt, true≢false, is_some, Some, None, Result, Ok, Err, IfOk, IfErr, Bor, arith}
-use Rattle.std.specs.List.{AllWithin, HoldsAt, insert, list_all, remove, filter}
+use Rattle.std.proofs.Common.{◌≡◌, ℕ, zero, suc, ◌+◌, ◌<◌, true, false, ap₂, not, List, [], ◌∷◌, length, get_or, take, set, refl, ap, sym, ◌∙◌, subst, Ordering, Less, Equal, Greater, is_lt, is_gt, true≢false, is_some, Some, None, Result, Ok, Err, IfOk, IfErr, Bor, arith}
+use Rattle.std.specs.List.{insert, list_all, remove}
 use Rattle.std.specs.Ordering.{match_ordering, ordering_reverse}
 use Rattle.std.proofs.lemmas.Bool.{and_parts, cond-true, cond-false, false_from_ne_true}
 use Rattle.chew_spec_syllable.specs.Row.{Row, image_cmp, is_pair_of, pair_cmp}
 use Rattle.chew_spec_dictionary.specs.Dictionary.{is_map, put_row, without}
 use Rattle.chew_spec_dictionary.specs.System.{row_of}
 use Rattle.chew_spec_dictionary.proofs.ImageOrder.{image_total, is_of_pair, of_pair, tie_is_pair, pair_ties}
-use Rattle.chew_spec_dictionary.proofs.Hiding.{some_not_none}
 use Rattle.chew_spec_dictionary.proofs.Maps.{absent_of, is_less}
 use Rattle.chew_spec_dictionary.proofs.Pairs.{found_first, found_later}
 use Rattle.std.specs.Fn.{Called, ComputesKey}
@@ -46,10 +45,10 @@ below_pair key phrase first row l e =
     ap₂ (λ (k p : List ℕ). pair_cmp first.key first.phrase k p) (sym same.0) (sym same.1) ∙ is_less (image_cmp first row) l
 
 -- a pair's row is put behind those that are below it, before those that it is below, and in place of its own
-put_behind : (row first : Row) (rest : List Row) → image_cmp first row ≡ Less → put_row row (first ∷ rest) ≡ first ∷ put_row row rest
+pub put_behind : (row first : Row) (rest : List Row) → image_cmp first row ≡ Less → put_row row (first ∷ rest) ≡ first ∷ put_row row rest
 put_behind row first rest e = ap (λ o. match_ordering o (row ∷ (first ∷ rest)) (row ∷ rest) (first ∷ put_row row rest)) (image_total.antisymm row first ∙ ap ordering_reverse e)
 
-put_before : (row first : Row) (rest : List Row) → image_cmp first row ≡ Greater → put_row row (first ∷ rest) ≡ row ∷ (first ∷ rest)
+pub put_before : (row first : Row) (rest : List Row) → image_cmp first row ≡ Greater → put_row row (first ∷ rest) ≡ row ∷ (first ∷ rest)
 put_before row first rest e = ap (λ o. match_ordering o (row ∷ (first ∷ rest)) (row ∷ rest) (first ∷ put_row row rest)) (image_total.antisymm row first ∙ ap ordering_reverse e)
 
 put_over : (row first : Row) (rest : List Row) → image_cmp first row ≡ Equal → put_row row (first ∷ rest) ≡ row ∷ rest
@@ -146,3 +145,14 @@ module _ (rows slice : List Row) (same : slice ≡ rows) (place : ℕ) where
   lacked_there key phrase s =
       let none = lacked key phrase rows place (subst (λ l. Lacks l key phrase place) same s) in
       (sym (ap is_some none), sym (without_absent key phrase rows none))
+
+-- the rows of a map, put in one after the other
+pub next_row : (rows : List Row) (i : ℕ) (row : Row) → is_map rows ≡ true → i < length rows → row ≡ get_or rows i row → put_row row (take i rows) ≡ take (i + 1) rows
+next_row [] i row m l e = absurd (omega arith)
+next_row (first ∷ rest) zero row m l e = ap (λ (r : Row). r ∷ []) e
+next_row (first ∷ rest) (suc i) row m l e =
+    let both = and_parts (list_all (λ later. is_lt (image_cmp first later)) rest) (is_map rest) m in
+    let low = ap (image_cmp first) e ∙ is_less _ (each_of_all (λ later. is_lt (image_cmp first later)) rest i row both.0 (omega arith)) in
+    put_behind row first (take i rest) low
+    ∙ ap (λ l. first ∷ l) (next_row rest i row both.1 (omega arith) e)
+    ∙ ap (λ n. take n (first ∷ rest)) (let n : suc (i + 1) ≡ suc i + 1 = omega arith in n)

@@ -1,12 +1,10 @@
 -- The rows of a key by their places among all rows, where they stand together.
-use Rattle.std.proofs.Common.{◌≡◌, ℕ, zero, suc, ◌+◌, ◌-◌, ◌≤◌, ◌<◌, true, List, [], ◌∷◌, length, take, drop, nat_le, refl, ap, sym, ◌∙◌, subst, Option, Some, None, Contains, arith}
+use Rattle.std.proofs.Common.{◌≡◌, ℕ, zero, suc, ◌+◌, ◌-◌, ◌<◌, true, List, [], ◌∷◌, length, take, drop, refl, ap, sym, ◌∙◌, Some, Contains, arith}
 use Rattle.std.specs.List.{list_all, slice_get}
-use Rattle.std.proofs.lemmas.Bool.{and_parts, leb-true}
 use Rattle.std.proofs.lemmas.Option.{none-some, same_Some}
 use Rattle.std.proofs.lemmas.List.{length-take}
 use Rattle.std.proofs.lemmas.List.Sorted.{Contains-permutation, IsPermutation-sym}
-use Rattle.chew_spec_syllable.specs.Row.{Row, greatest_freq, is_pair, is_row}
-use Rattle.chew_spec_dictionary.specs.Order.{in_order}
+use Rattle.chew_spec_syllable.specs.Row.{Row, is_row}
 use Rattle.chew_spec_dictionary.specs.System.{phrase_cmp, rows_of, rows_under}
 use Rattle.chew_spec_dictionary.proofs.Found.{each_of_all}
 use Rattle.chew_spec_dictionary.proofs.Order.{order_permutes}

@@ -1,3 +1,4 @@
+pub mod ByKey
 pub mod Call
 pub mod Look
 pub mod Order

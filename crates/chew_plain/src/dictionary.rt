@@ -14,7 +14,7 @@ use crate::hits::Hits;
 use crate::look::look;
 use crate::pairs::Pairs;
 use crate::reply::Reply;
-use chew_syllable::{Key, KeyRow, NoMemory, Phrase, Run, Syllable};
+use chew_syllable::{Key, KeyRow, NoMemory, Phrase, Run};
 use std::cmp::{max, min};
 use std::marker::Model;
 
@@ -160,7 +160,6 @@ impl Dictionary {
     fn is_full(&self) -> bool
         ensures value { result ≡ nat_le self.now.cap (length self.now.pairs) }
         ensures room { IsFalse result → length self.now.pairs + 1 < 2 ^ 32 }
-        ensures map { IsTrue (is_map self.now.pairs) }
     {
         self.pairs.len() >= self.cap
     }
@@ -175,7 +174,7 @@ impl Dictionary {
         if is_hidden(row) {
             return first_freq(orig);
         }
-        let own = self.greatest_shown(row.key.list());
+        let own = self.greatest_shown(&row.key);
         next_freq(
             row.freq,
             orig,
@@ -185,7 +184,7 @@ impl Dictionary {
     }
 
     /// The greatest frequency of the pairs of a key that are not hidden, or 0.
-    fn greatest_shown(&self, key: &[Syllable]) -> u32
+    fn greatest_shown(&self, key: &Key) -> u32
         ensures value { result ≡ peak_of (shown_rows self.now.pairs) key.now }
         ensures range { result ≤ 99_999_999 }
     {

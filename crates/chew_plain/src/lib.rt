@@ -1,4 +1,4 @@
-//! The dictionary by its plain meaning: calls and replies, the user's dictionary as a sorted list of rows,
+//! The dictionary by its plain meaning: calls and replies, the user's dictionary as a sorted list for each key,
 //! and the rows of a system behind a trait.
 #![tactic(auto)]
 
@@ -13,11 +13,13 @@ mod hits;
 mod interval;
 mod kept;
 mod lexicon;
+mod lists;
 mod look;
 mod order;
 mod pairs;
 mod places;
 mod plain;
+mod ranked;
 mod reply;
 mod row_map;
 

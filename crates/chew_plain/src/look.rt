@@ -1,6 +1,7 @@
 ghost use Rattle.std.specs.Prelude.{◌≡◌, ◌+◌, ◌<◌, ◌≤◌, ◌++◌, OnOk, IfOk, length, map};
 ghost use Rattle.std.specs.List.{All};
-ghost use Rattle.chew_spec_dictionary.specs.Look.{hit_of, hits_of};
+ghost use Rattle.chew_spec_dictionary.specs.Look.{codes_at, hit_of, hits_of};
+ghost use Rattle.chew_spec_dictionary.specs.System.{rows_under};
 ghost use Rattle.chew_plain.specs.Look.{interval, hits_at};
 
 use crate::hidden::is_hidden;
@@ -8,7 +9,7 @@ use crate::hit::Hit;
 use crate::interval::{Interval, intervals};
 use crate::order::sort_hits;
 use crate::pairs::Pairs;
-use chew_syllable::{KeyRow, NoMemory, Syllable};
+use chew_syllable::{Key, KeyRow, NoMemory, Syllable};
 use std::alloc::Global;
 
 /// All rows of all intervals of a run.
@@ -37,11 +38,24 @@ fn push_at(
     requires few { at.len ≤ 11 }
     ensures { OnOk result (hits.new.items ≡ hits.old.items ++ hits_at pairs.now run.now at) }
 {
-    let found = pairs.under(&run[at.start..at.start + at.len]);
+    let found = found_at(pairs, run, at);
     let mut shown = as_hits(*hits.allocator(), found, at.start as u8, at.len as u8)?;
     sort_hits(&mut shown)?;
     hits.append(&mut shown)?;
     Ok(())
+}
+
+/// The rows of an interval.
+fn found_at<'a>(pairs: &'a Pairs, run: &[Syllable], at: Interval) -> &'a [KeyRow]
+    requires inside { at.start + at.len ≤ length run.now }
+    requires some { 1 ≤ at.len }
+    requires few { at.len ≤ 11 }
+    ensures { result.now ≡ rows_under pairs.now (codes_at run.now at) }
+{
+    match Key::of(&run[at.start..at.start + at.len]) {
+        Some(key) => pairs.under(&key),
+        None => unreachable!(),
+    }
 }
 
 /// The rows as hits of an interval, in the same order.

@@ -5,29 +5,29 @@ ghost use Rattle.chew_spec_dictionary.specs.Dictionary.{is_map, put_row, without
 ghost use Rattle.chew_spec_dictionary.specs.Order.{in_order};
 ghost use Rattle.chew_spec_dictionary.specs.System.{row_of, rows_under};
 
-use crate::find::rows_at;
+use crate::lists::Lists;
 use crate::order::sort_rows;
 use crate::places;
-use chew_syllable::{Key, KeyRow, NoMemory, Phrase, Syllable};
+use chew_syllable::{Key, KeyRow, NoMemory, Phrase};
 use std::alloc::Global;
 use std::marker::Model;
 
 /// The pairs of the user's dictionary, each with its frequency and its time: fewer than 2^32.
 #[derive(Debug, Drop)]
 pub(crate) struct Pairs {
-    rows: Vec<KeyRow>,
+    lists: Lists,
+    count: u32,
 }
 
 impl Model for Pairs {
-    ghost use Rattle.std.specs.Prelude.{◌<◌, ◌^◌, IsTrue, List, length};
+    ghost use Rattle.std.specs.Prelude.{◌≡◌, List, length};
     ghost use Rattle.chew_spec_syllable.specs.Row.{Row};
-    ghost use Rattle.chew_spec_dictionary.specs.Dictionary.{is_map};
 
     ghost Value = { List Row };
 
-    ghost view = { λ pairs. pairs.rows.items };
+    ghost view = { λ pairs. pairs.lists };
 
-    ghost invariant = { λ pairs. IsTrue (is_map pairs.rows.items) × (length pairs.rows.items < 2 ^ 32) };
+    ghost invariant = { λ pairs. pairs.count ≡ length pairs.lists };
 }
 
 impl Pairs {
@@ -39,20 +39,26 @@ impl Pairs {
         ensures map { IfOk result (λ pairs. IsTrue (is_map pairs)) }
     {
         sort_rows(&mut rows)?;
-        Ok(Pairs { rows })
+        let mut pairs = Pairs {
+            lists: Lists::new(*rows.allocator()),
+            count: 0,
+        };
+        for row in rows.as_slice() {
+            pairs.put(row.copy())?;
+        }
+        Ok(pairs)
     }
 
     /// Where it takes memory from.
     pub(crate) fn allocator(&self) -> Global {
-        *self.rows.allocator()
+        self.lists.allocator()
     }
 
     /// How many they are.
     pub(crate) fn len(&self) -> u32
-        ensures value { result ≡ length self.now }
-        ensures map { IsTrue (is_map self.now) }
+        ensures { result ≡ length self.now }
     {
-        self.rows.len() as u32
+        self.count
     }
 
     /// The row of a pair.
@@ -61,14 +67,16 @@ impl Pairs {
         ensures map { IsTrue (is_map self.now) }
         ensures few { length self.now < 2 ^ 32 }
     {
-        places::find(self.rows.as_slice(), key, phrase)
+        let _count = self.count;
+        places::find(self.under(key), key, phrase)
     }
 
     /// The rows of a key, by their phrases' bytes.
-    pub(crate) fn under(&self, key: &[Syllable]) -> &[KeyRow]
-        ensures { result.now ≡ rows_under self.now key.now }
+    pub(crate) fn under(&self, key: &Key) -> &[KeyRow]
+        ensures value { result.now ≡ rows_under self.now key.now }
+        ensures map { IsTrue (is_map self.now) }
     {
-        rows_at(self.rows.as_slice(), key)
+        self.lists.under(key)
     }
 
     /// Puts a row in, in place of an earlier one of its pair.
@@ -77,7 +85,10 @@ impl Pairs {
         ensures ok { OnOk result (self.new ≡ put_row row self.old) }
         ensures err { OnErr result (self.new ≡ self.old) }
     {
-        places::put(&mut self.rows, row)
+        if self.lists.put(row)? {
+            self.count += 1;
+        }
+        Ok(())
     }
 
     /// Takes the row of a pair out. Whether there was one.
@@ -85,6 +96,10 @@ impl Pairs {
         ensures held { result ≡ is_some (row_of self.old key.now phrase.now) }
         ensures left { self.new ≡ without key.now phrase.now self.old }
     {
-        places::take_out(&mut self.rows, key, phrase)
+        let held = self.lists.take_out(key, phrase);
+        if held {
+            self.count -= 1;
+        }
+        held
     }
 }

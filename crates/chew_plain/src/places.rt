@@ -1,4 +1,4 @@
-ghost use Rattle.std.specs.Prelude.{◌≡◌, ◌<◌, ◌≤◌, IsTrue, IfOk, IfErr, OnOk, OnErr, MatchResult, Some, None, length, is_some};
+ghost use Rattle.std.specs.Prelude.{◌≡◌, ◌<◌, ◌≤◌, IsTrue, IfOk, IfErr, OnOk, OnErr, length, is_some, not};
 ghost use Rattle.std.specs.Option.{option_copied};
 ghost use Rattle.chew_spec_syllable.specs.Row.{pair_cmp};
 ghost use Rattle.chew_spec_dictionary.specs.Dictionary.{is_map, put_row, without};
@@ -28,17 +28,23 @@ pub(crate) fn find<'a>(rows: &'a [KeyRow], key: &Key, phrase: &Phrase) -> Option
     }
 }
 
-/// Puts a row in at its place, in place of an earlier one of its pair.
-pub(crate) fn put(rows: &mut Vec<KeyRow>, row: KeyRow) -> Result<(), NoMemory>
+/// Puts a row in at its place, in place of an earlier one of its pair. Whether there was none.
+pub(crate) fn put(rows: &mut Vec<KeyRow>, row: KeyRow) -> Result<bool, NoMemory>
     requires map { IsTrue (is_map rows.now.items) }
+    ensures new { IfOk result (λ new. new ≡ not (is_some (row_of rows.old.items row.key row.phrase))) }
     ensures ok { OnOk result (rows.new.items ≡ put_row row rows.old.items) }
     ensures err { OnErr result (rows.new.items ≡ rows.old.items) }
 {
     match place_of(rows.as_slice(), &row.key, &row.phrase) {
-        Ok(place) => rows[place] = row,
-        Err(place) => rows.insert(place, row)?,
+        Ok(place) => {
+            rows[place] = row;
+            Ok(false)
+        }
+        Err(place) => {
+            rows.insert(place, row)?;
+            Ok(true)
+        }
     }
-    Ok(())
 }
 
 /// Takes the row of a pair out. Whether there was one.

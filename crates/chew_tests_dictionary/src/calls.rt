@@ -8,7 +8,7 @@ use chew_syllable::{Key, Phrase, Run, Syllable};
 use std::test::Fail;
 
 /// The pair of these syllables and this text, where they are one.
-fn pair(key: &[Syllable], text: &str) -> Option<(Key, Phrase)>
+pub(crate) fn pair(key: &[Syllable], text: &str) -> Option<(Key, Phrase)>
     ensures { IfSome result (λ pair. IsTrue (is_pair pair.0 pair.1)) }
 {
     let key = Key::of(key)?;

@@ -12,6 +12,10 @@ mod hiding;
 #[cfg(test)]
 mod learning;
 #[cfg(test)]
+mod listed;
+#[cfg(test)]
+mod many_calls;
+#[cfg(test)]
 mod snapshots;
 #[cfg(test)]
 mod system;

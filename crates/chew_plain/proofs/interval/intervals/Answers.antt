@@ -1,5 +1,5 @@
 -- One start more; and the intervals of a run lie in it.
-use Rattle.std.proofs.Common.{ℕ, ◌+◌, ◌≤◌, All, Contains, sym, subst}
+use Rattle.std.proofs.Common.{◌+◌, ◌≤◌, All, Contains, sym, subst}
 use Rattle.std.proofs.lemmas.List.Elements.{All-contains_itself, All-weaker}
 use Rattle.chew_spec_dictionary.specs.Look.{Interval, intervals}
 use Rattle.chew_spec_dictionary.proofs.Hits.{listed_within}

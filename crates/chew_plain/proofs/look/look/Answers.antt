@@ -1,5 +1,5 @@
 -- The hits of one interval more, until all are there.
-use Rattle.std.proofs.Common.{◌≡◌, ◌+◌, List, length, flat_map, get_or, ap, ◌∙◌, arith}
+use Rattle.std.proofs.Common.{◌≡◌, List, length, flat_map, get_or, ap, ◌∙◌, arith}
 use Rattle.std.proofs.lemmas.List.{take_all}
 use Rattle.chew_spec_dictionary.specs.Look.{Interval, hits_of, intervals}
 use Rattle.chew_plain.specs.Look.{hits_at}

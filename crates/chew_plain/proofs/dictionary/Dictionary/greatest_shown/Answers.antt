@@ -10,6 +10,6 @@ use Rattle.chew_plain.proofs.dictionary.Dictionary.greatest_shown.Goals as goal
 pub returns-clause-value : goal.returns-clause-value
 returns-clause-value c =
     c.greatest_shown.ensures.value
-    ∙ ap (λ (l : List Row). greatest (shown_rows l)) c.under.ensures
+    ∙ ap (λ (l : List Row). greatest (shown_rows l)) c.under.ensures.value
     ∙ ap greatest (shown_under c.args.key.now c.self.inside.pairs)
     ∙ ap (λ (d : Dictionary). peak_of (shown_rows d.pairs) c.args.key.now) c.self.view_is

@@ -1,5 +1,5 @@
 -- The row of the key is the one at its place.
-use Rattle.std.proofs.Common.{ℕ, List, Some, ap, sym, ◌∙◌, nat_le, arith}
+use Rattle.std.proofs.Common.{ℕ, List, Some, ap, sym, ◌∙◌, nat_le}
 use Rattle.std.proofs.lemmas.Bool.{and_parts, leb-true}
 use Rattle.chew_spec_syllable.specs.Row.{Row, greatest_freq, is_pair}
 use Rattle.chew_plain.proofs.Together.{its_row, its_row_key, its_row_valid}

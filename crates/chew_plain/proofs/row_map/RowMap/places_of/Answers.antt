@@ -1,6 +1,5 @@
 -- The rows of a key of a map are in the order of their phrases already.
-use Rattle.std.proofs.Common.{◌≡◌, true, ◌-◌, take, drop, ap, sym, ◌∙◌, List, rules}
-use Rattle.chew_spec_syllable.specs.Row.{Row}
+use Rattle.std.proofs.Common.{◌≡◌, true, ◌-◌, take, drop, ap, sym, ◌∙◌, rules}
 use Rattle.chew_spec_dictionary.specs.Dictionary.{is_map}
 use Rattle.chew_spec_dictionary.specs.System.{rows_under}
 use Rattle.chew_spec_dictionary.proofs.Rows.{rows_of_map}
