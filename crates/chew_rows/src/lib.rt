@@ -1,15 +1,18 @@
 //! The text of a dictionary: read into its rows, and printed from rows.
 #![tactic(auto)]
 
+mod apart;
 mod cause;
 mod fields;
 mod frequency;
 mod limits;
+mod line_reader;
 mod pair;
 mod row_line;
 mod rows_printer;
 mod rows_reader;
 mod syllables;
+mod whole_reader;
 
 pub use cause::{RowCause, RowsFault};
 pub use limits::{ROWS_LIMIT, SYSTEM_LIMIT};

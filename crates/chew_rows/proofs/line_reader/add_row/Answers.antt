@@ -1,7 +1,7 @@
 -- The set has the pair of the new row besides.
 use Rattle.std.proofs.Common.{◌≡◌, sym, ◌∙◌}
 use Rattle.chew_rows.proofs.Pairs.{pair_added}
-use Rattle.chew_rows.proofs.rows_reader.add_row.Goals as goal
+use Rattle.chew_rows.proofs.line_reader.add_row.Goals as goal
 
 pub returns-in-Ok-push-clause-pairs : goal.returns-in-Ok-push-clause-pairs
 returns-in-Ok-push-clause-pairs c =

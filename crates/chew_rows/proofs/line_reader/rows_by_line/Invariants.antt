@@ -4,7 +4,7 @@ use Rattle.chew_spec_text.specs.DictionaryText.{dictionary_rows}
 use Rattle.chew_text.proofs.LinesTaken.{Leaves}
 use Rattle.chew_rows.specs.Lines.{taken}
 use Rattle.chew_rows.specs.Pairs.{HasPairsOf}
-use Rattle.chew_rows.proofs.rows_reader.read_rows.Given as goal
+use Rattle.chew_rows.proofs.line_reader.rows_by_line.Given as goal
 
 abbrev pub decreases-lines : goal.decreases-lines
 decreases-lines l = length l.lines

@@ -5,7 +5,7 @@ use Rattle.chew_spec_syllable.specs.Row.{Row}
 use Rattle.chew_spec_text.specs.DictionaryText as spec
 use Rattle.chew_rows.specs.Faults.{IsFaultOfLine}
 use Rattle.chew_rows.proofs.Rows.{line_row}
-use Rattle.chew_rows.proofs.rows_reader.read_line.Goals as goal
+use Rattle.chew_rows.proofs.line_reader.read_line.Goals as goal
 
 pub returns-in-Ok-clause-bad : goal.returns-in-Ok-clause-bad
 returns-in-Ok-clause-bad c =
