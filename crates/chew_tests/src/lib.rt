@@ -1,5 +1,0 @@
-//! Tests of phrasing.
-#![tactic(auto)]
-
-#[cfg(test)]
-mod phrasing;

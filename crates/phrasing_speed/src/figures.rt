@@ -1,0 +1,123 @@
+use crate::failure::Failure;
+use std::io::Print;
+use std::time::Duration;
+
+/// The numbers of cells whose keys are told apart.
+const TOLD: [usize; 5] = [5, 10, 11, 20, 39];
+
+/// Times of some keys.
+#[derive(Clone, Copy, Drop)]
+struct Times {
+    count: u64,
+    nanos: u64,
+    greatest: u64,
+}
+
+impl Times {
+    /// Those of no keys.
+    fn none() -> Times {
+        Times {
+            count: 0,
+            nanos: 0,
+            greatest: 0,
+        }
+    }
+
+    /// With one key more.
+    fn with(self, nanos: u64) -> Times {
+        Times {
+            count: self.count.saturating_add(1),
+            nanos: self.nanos.saturating_add(nanos),
+            greatest: self.greatest.max(nanos),
+        }
+    }
+
+    /// The average.
+    fn average(&self) -> u64 {
+        self.nanos.checked_div(self.count).unwrap_or(0)
+    }
+}
+
+/// What keys cost.
+#[derive(Drop)]
+pub(crate) struct Figures {
+    keys: u64,
+    commits: Times,
+    syllables: Times,
+    by_cells: [Times; 40],
+}
+
+impl Figures {
+    /// Those of no keys.
+    pub(crate) fn none() -> Figures {
+        Figures {
+            keys: 0,
+            commits: Times::none(),
+            syllables: Times::none(),
+            by_cells: [Times::none(); 40],
+        }
+    }
+
+    /// Counts a key.
+    pub(crate) fn count_key(&mut self) {
+        self.keys = self.keys.saturating_add(1);
+    }
+
+    /// Adds the time of a key that ended the syllable of the last of so many cells.
+    pub(crate) fn add_syllable(&mut self, cells: usize, time: Duration) {
+        let nanos = nanos_of(time);
+        self.syllables = self.syllables.with(nanos);
+        if cells < 40 {
+            self.by_cells[cells] = self.by_cells[cells].with(nanos);
+        }
+    }
+
+    /// Adds the time in which a whole line is learnt.
+    pub(crate) fn add_commit(&mut self, time: Duration) {
+        self.commits = self.commits.with(nanos_of(time));
+    }
+
+    /// Prints them, in microseconds of processor time.
+    pub(crate) fn print<R: Print>(&self, rt: &R) -> Result<(), Failure> {
+        let nanos = self.syllables.nanos.saturating_add(self.commits.nanos);
+        let average = nanos.checked_div(self.keys).unwrap_or(0);
+        println!(rt;
+            "{} keys in {} us, {} ns a key",
+            self.keys,
+            nanos / 1000,
+            average
+        )?;
+        print_times(rt, "syllables", &self.syllables)?;
+        print_times(rt, "lines learnt", &self.commits)?;
+        for cells in TOLD {
+            print_cells(rt, cells, &self.by_cells)?;
+        }
+        Ok(())
+    }
+}
+
+/// A time in nanoseconds.
+fn nanos_of(time: Duration) -> u64 {
+    let whole = time.as_secs().saturating_mul(1_000_000_000);
+    whole.saturating_add(u64::from(time.subsec_nanos()))
+}
+
+/// Prints the times of the keys that ended the syllable of the last of so many cells.
+fn print_cells<R: Print>(rt: &R, cells: usize, times: &[Times]) -> Result<(), Failure> {
+    if let Some(times) = times.get(cells) {
+        print!(rt; "{cells} cells: ")?;
+        print_times(rt, "keys", times)?;
+    }
+    Ok(())
+}
+
+/// Prints the times of some keys.
+fn print_times<R: Print>(rt: &R, what: &str, times: &Times) -> Result<(), Failure> {
+    println!(rt;
+        "{} {what}, {} ns on average, {} ns at most",
+        times.count,
+        times.average(),
+        times.greatest
+    )?;
+    Ok(())
+}
