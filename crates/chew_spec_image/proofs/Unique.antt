@@ -53,8 +53,13 @@ length-rows_at : (bytes : List ℕ) (place n : ℕ) → length (rows_at bytes pl
 length-rows_at bytes place zero = refl
 length-rows_at bytes place (suc n) = let l = length-rows_at bytes (place + 20) n in omega arith
 
--- what was read
+-- what was read: the parts of the bytes are those of the rows' image
 pub record IsRead (bytes : List ℕ) (rows : List Row) : Type 0 where
+  pub whole : length bytes ≡ image_end (counts_in bytes)
+  pub counts : counts_of rows ≡ counts_in bytes
+  pub nodes : nodes_of rows ≡ nodes_at bytes 20 (counts_in bytes).nodes
+  pub fields : fields_from 0 rows ≡ rows_at bytes (rows_place (counts_in bytes)) (counts_in bytes).rows
+  pub text : text_of rows ≡ drop (text_place (counts_in bytes)) bytes
   pub image : image rows ≡ bytes
   pub map : is_map rows ≡ true
   pub each : list_all is_row rows ≡ true
@@ -125,6 +130,11 @@ from_tree bytes due keys rows are h tree count fine same =
     let rise = rows_rise text (record { key = []; phrase = []; freq = 0; time = 0 }) (at_rows counts) due fields fine
     (subst (Links []) (sym (rows_behind tree)) (links_by (λ (n : Node). n.rows) [] keys others tree.up.0 tree.up.1)) refl in
     record {
+      whole = whole;
+      counts = same_counts (counts_of rows) counts r_count n_count t_count;
+      nodes = nodes ∙ all_nodes;
+      fields = f_same;
+      text = t_same;
       image = image_by rows counts (nodes_at bytes 20 counts.nodes) fields text
           (same_counts (counts_of rows) counts r_count n_count t_count) (nodes ∙ all_nodes) f_same t_same
           ∙ ap (λ (l : List ℕ). l ++ (flat_map node_bytes (nodes_at bytes 20 counts.nodes) ++ (flat_map row_bytes fields ++ text))) (header_back bytes are h.begins h.header)

@@ -1,14 +1,15 @@
 ghost use Rattle.std.specs.Prelude.{◌≡◌, ◌+◌, ◌*◌, ◌≤◌, ◌<◌, ◌^◌, IfOk, IfErr, OnOk, None, Some, length};
 ghost use Rattle.chew_spec_image.specs.Fields.{header_bytes};
-ghost use Rattle.chew_spec_image.specs.Reading.{counts_fault, image_end, rows_place, text_place};
+ghost use Rattle.chew_spec_image.specs.Reading.{counts_fault, counts_in, image_end, rows_place, text_place};
 
 use crate::fault::ImageFault;
 use crate::fields::ROW_LEN;
 use crate::node::NODE_LEN;
+use crate::number::u32_at;
 use std::marker::Model;
 
 /// How many bytes stand before the nodes.
-pub(crate) const HEADER_LEN: usize = 20;
+pub const HEADER_LEN: usize = 20;
 
 /// The most rows of an image.
 const ROWS_LIMIT: u32 = 250_000;
@@ -71,6 +72,18 @@ impl Counts {
             + NODE_LEN * self.nodes as usize
             + ROW_LEN * self.rows as usize
             + self.text as usize
+    }
+}
+
+/// The numbers in the header of bytes.
+pub fn counts_in(bytes: &[u8]) -> Counts
+    requires { 20 ≤ length bytes.now }
+    ensures { result ≡ counts_in bytes.now }
+{
+    Counts {
+        rows: u32_at(bytes, 8),
+        nodes: u32_at(bytes, 12),
+        text: u32_at(bytes, 16),
     }
 }
 

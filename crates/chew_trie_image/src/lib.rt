@@ -13,7 +13,8 @@ mod rows_read;
 mod walk;
 
 pub use check::check_image;
-pub use counts::Counts;
+pub use counts::{Counts, HEADER_LEN, counts_in};
 pub use fault::ImageFault;
-pub use fields::RowFields;
-pub use node::Node;
+pub use fields::{ROW_LEN, RowFields, row_at};
+pub use node::{NODE_LEN, Node, node_at};
+pub use rows_read::phrase_in;

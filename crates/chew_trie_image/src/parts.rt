@@ -1,9 +1,8 @@
 ghost use Rattle.std.specs.Prelude.{◌≡◌, ◌+◌, ◌*◌, ◌<◌, ◌≤◌, ◌^◌, IfErr, None, OnOk, IfOk, Some, length, drop};
 ghost use Rattle.chew_spec_image.specs.Reading.{counts_in, header_fault, image_end, text_place};
 
-use crate::counts::{Counts, HEADER_LEN, check_counts};
+use crate::counts::{Counts, HEADER_LEN, check_counts, counts_in};
 use crate::fault::ImageFault;
-use crate::number::u32_at;
 
 /// The bytes with which every image begins.
 const MAGIC: [u8; 8] = *b"CHEWTRI1";
@@ -36,11 +35,7 @@ impl<'a> Parts<'a> {
                 place: bytes.len() as u64,
             });
         }
-        let counts = Counts {
-            rows: u32_at(bytes, 8),
-            nodes: u32_at(bytes, 12),
-            text: u32_at(bytes, 16),
-        };
+        let counts = counts_in(bytes);
         match check_counts(&counts, bytes.len()) {
             Ok(()) => Ok(Parts { bytes, counts }),
             Err(fault) => Err(fault),

@@ -1,0 +1,4 @@
+pub mod Left
+pub mod Search
+pub mod Start
+pub mod Stored
