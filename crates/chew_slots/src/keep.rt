@@ -31,6 +31,33 @@ impl Model for Keep {
 }
 
 impl Keep {
+    /// Where this slot counts, with its number, and each gate is surely shut or not.
+    pub(crate) fn of_slot(slot: u8, seq: u64, zero_shut: bool, one_shut: bool) -> Keep
+        requires { slot < 2 }
+        ensures { result ≡ record { acknowledged = Some slot; seq = seq; target = 1 - slot; zero_shut = zero_shut; one_shut = one_shut } }
+    {
+        Keep {
+            acknowledged: Some(slot),
+            seq,
+            target: 1 - slot,
+            zero_shut,
+            one_shut,
+        }
+    }
+
+    /// Where no slot counts.
+    pub(crate) fn of_none(zero_shut: bool, one_shut: bool) -> Keep
+        ensures { result ≡ record { acknowledged = None; seq = 0; target = 0; zero_shut = zero_shut; one_shut = one_shut } }
+    {
+        Keep {
+            acknowledged: None,
+            seq: 0,
+            target: 0,
+            zero_shut,
+            one_shut,
+        }
+    }
+
     /// The number of the acknowledged checkpoint, 0 where there is none.
     pub fn seq(&self) -> u64
         ensures { result ≡ self.now.seq }

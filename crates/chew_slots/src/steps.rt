@@ -1,12 +1,14 @@
-ghost use Rattle.std.specs.Prelude.{◌≡◌, ◌⊎◌, ℕ, ◌+◌, ◌-◌, ◌^◌, ◌<◌, Bool, true, false, is_err, IfErr, IsOk, OnOk, OnErr};
+ghost use Rattle.std.specs.Prelude.{◌≡◌, ◌⊎◌, ℕ, ◌+◌, ◌-◌, ◌^◌, ◌<◌, Bool, true, false, is_err, if◌then◌else◌, IfErr, IsOk, MatchResult, OnOk, OnErr};
 ghost use Rattle.chew_spec_outside.specs.Faults.{HasCause};
 ghost use Rattle.chew_spec_disk.specs.Disk.{last_moment};
 ghost use Rattle.chew_spec_slots.specs.Fits.{Fits, IsFilled};
 ghost use Rattle.chew_spec_slots.specs.Keep.{advanced, is_shut, with_shut};
 ghost use Rattle.chew_spec_slots.specs.Slot.{IsSaved, Saved, body as slot_body};
 ghost use Rattle.chew_spec_slots.specs.Steps.{FillsBody, LiftsGate, ShutsGate};
+ghost use Rattle.chew_slots.specs.Calls.{after_calls};
 
 use crate::Keep;
+use crate::fields::OPEN;
 use chew_outside::Disk;
 
 /// A device call failed in writing a checkpoint.
@@ -17,10 +19,8 @@ pub struct StepFault {
     pub step: u8,
 }
 
-/// The byte of a shut gate, and that of an open one.
+/// The byte of a shut gate.
 const SHUT: u8 = 0;
-
-const OPEN: u8 = 0xA5;
 
 impl Keep {
     /// Shuts the target's gate, unless it is surely shut; then no device call is made.
@@ -30,6 +30,10 @@ impl Keep {
         ensures err { OnErr result (self.new ≡ self.old) }
         ensures step { IfErr result (λ fault. (fault.step ≡ 1) ⊎ (fault.step ≡ 2)) }
         ensures cause { HasCause (D.faults disk.old) (D.faults disk.new) (is_err result) }
+        ensures shut { OnOk result (is_shut self.new self.new.target ≡ true) }
+        ensures calls { D.told disk.old ≡ true → MatchResult result
+            (λ _. (D.state disk.new).moment ≡ (if is_shut self.old self.old.target then (D.state disk.old).moment else after_calls 2 (D.state disk.old).moment))
+            (λ fault. (D.state disk.new).moment ≡ after_calls fault.step (D.state disk.old).moment) }
         ensures shuts { D.told disk.old ≡ true → Fits self.old (D.state disk.old) →
             ShutsGate self.old (D.state disk.old) self.new (D.state disk.new) result }
     {
@@ -55,15 +59,18 @@ impl Keep {
         ensures same { self.new ≡ self.old }
         ensures step { IfErr result (λ fault. (fault.step ≡ 3) ⊎ (fault.step ≡ 4)) }
         ensures cause { HasCause (D.faults disk.old) (D.faults disk.new) (is_err result) }
+        ensures calls { D.told disk.old ≡ true → MatchResult result
+            (λ _. (D.state disk.new).moment ≡ after_calls 2 (D.state disk.old).moment)
+            (λ fault. (D.state disk.new).moment ≡ after_calls (fault.step - 2) (D.state disk.old).moment) }
         ensures fills { (saved : Saved) → IsSaved saved → saved.seq ≡ self.old.seq + 1 → body.now ≡ slot_body saved →
             D.told disk.old ≡ true → Fits self.old (D.state disk.old) →
             FillsBody self.old (D.state disk.old) (D.state disk.new) saved result }
     {
-        let slot = self.target();
-        if disk.write_at(slot, 1, body).is_err() {
+        let target = self.target();
+        if disk.write_at(target, 1, body).is_err() {
             return Err(StepFault { step: 3 });
         }
-        if disk.sync(slot).is_err() {
+        if disk.sync(target).is_err() {
             return Err(StepFault { step: 4 });
         }
         Ok(())
@@ -77,16 +84,19 @@ impl Keep {
         ensures err { OnErr result (self.new ≡ with_shut self.old self.old.target false) }
         ensures step { IfErr result (λ fault. (fault.step ≡ 5) ⊎ (fault.step ≡ 6)) }
         ensures cause { HasCause (D.faults disk.old) (D.faults disk.new) (is_err result) }
+        ensures calls { D.told disk.old ≡ true → MatchResult result
+            (λ _. (D.state disk.new).moment ≡ after_calls 2 (D.state disk.old).moment)
+            (λ fault. (D.state disk.new).moment ≡ after_calls (fault.step - 4) (D.state disk.old).moment) }
         ensures lifts { (saved : Saved) → D.told disk.old ≡ true → Fits self.old (D.state disk.old) →
             IsFilled self.old (D.state disk.old) saved →
             LiftsGate self.old (D.state disk.old) self.new (D.state disk.new) saved result }
     {
         self.set_shut(false);
-        let slot = self.target();
-        if disk.write_at(slot, 0, &[OPEN]).is_err() {
+        let lifted = self.target();
+        if disk.write_at(lifted, 0, &[OPEN]).is_err() {
             return Err(StepFault { step: 5 });
         }
-        if disk.sync(slot).is_err() {
+        if disk.sync(lifted).is_err() {
             return Err(StepFault { step: 6 });
         }
         self.advance();

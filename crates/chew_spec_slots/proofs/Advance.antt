@@ -79,7 +79,7 @@ advanced-other keep zero low is = ap (λ (t : ℕ). cond (t == 0) keep.one_shut 
 advanced-other keep (suc zero) low is = ap (λ (t : ℕ). cond (t == 0) false keep.zero_shut) is
 advanced-other keep (suc (suc n)) low is = absurd (omega arith)
 
-surely-parts : (list : List ℕ) → is_surely_shut list ≡ true → (1 ≤ length list) × (slice_index list 0 ≢ open_gate)
+pub surely-parts : (list : List ℕ) → is_surely_shut list ≡ true → (1 ≤ length list) × (slice_index list 0 ≢ open_gate)
 surely-parts [] is = absurd (true≢false (sym is))
 surely-parts (first ∷ behind) is = (omega arith, λ gate. absurd (true≢false (sym is ∙ same-test first (length behind) gate)))
   where
@@ -93,7 +93,7 @@ open-not-shut list gate = go (nat_le 1 (length list)) (slice_index list 0) gate
     go b first same = grind (arith, nat_tests)
 
 -- how the slot that counted reads once it is the target
-opened-kept : (list : List ℕ) → is_surely_shut list ≡ false → (slot_reading (opened list) ≡ slot_reading list)
+pub opened-kept : (list : List ℕ) → is_surely_shut list ≡ false → (slot_reading (opened list) ≡ slot_reading list)
 opened-kept list is =
     ⊎_elim
     (λ none. ap (λ l. slot_reading (opened l)) none ∙ sym (ap slot_reading none))

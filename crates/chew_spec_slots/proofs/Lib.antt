@@ -7,3 +7,5 @@ pub mod Stages
 pub mod States
 pub mod Steps
 pub mod Targets
+pub mod Found
+pub mod Whole

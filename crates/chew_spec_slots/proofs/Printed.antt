@@ -12,7 +12,7 @@ use Rattle.chew_spec_image.specs.Fields.{Counts, u64_at}
 use Rattle.chew_spec_image.specs.Image.{image}
 use Rattle.chew_spec_image.specs.ReadNodes.{checked, unless_fault}
 use Rattle.chew_spec_image.specs.Reading.{counts_fault, counts_in, header_fault, image_end, image_reading, keys_due, rows_for}
-use Rattle.chew_spec_slots.specs.Reading.{SlotReading, Open, as_open, digest_fault, digest_in, digested, image_in, image_len, life_in, plain_fault, saved_as, saved_in, seq_in, slot_reading}
+use Rattle.chew_spec_slots.specs.Reading.{SlotReading, Open, Faulty, as_open, digest_fault, digest_in, digested, image_in, image_len, life_in, plain_fault, saved_as, saved_in, seq_in, slot_reading}
 use Rattle.chew_spec_slots.specs.Slot.{IsSaved, Saved, body, digest, digest_magic, fields, magic, open_gate, plain_slot, rows_limit, slot}
 
 -- the eight bytes from a place on, and what follows them
@@ -128,13 +128,29 @@ reads-as bytes magic_in saved image_bytes tail parts seq life len =
     length-by bytes eight image_bytes tail is long =
         omega (arith, length-drop 25 bytes, ap length is, length-append eight (image_bytes ++ tail), length-append image_bytes tail)
 
-saved-as : (bytes : List ℕ) (saved : Saved) → seq_in bytes ≡ saved.seq → life_in bytes ≡ saved.checkpoint.life → length saved.checkpoint.rows ≤ rows_limit → saved_as bytes (Ok saved.checkpoint.rows) ≡ Ok saved
-saved-as bytes saved seq life few =
-    ap (λ b. cond b (Ok (record { seq = seq_in bytes; checkpoint = record { life = life_in bytes; rows = saved.checkpoint.rows } })) (Err 41)) (fits-test (length saved.checkpoint.rows) rows_limit few)
-    ∙ ap₂ (λ s l. Ok (record { seq = s; checkpoint = record { life = l; rows = saved.checkpoint.rows } })) seq life
+-- what a slot may stand for, but for the number of its rows
+record IsPrinted (saved : Saved) : Type 0 where
+  first : 1 ≤ saved.seq
+  seq : saved.seq < 2 ^ 64
+  life : saved.checkpoint.life < 2 ^ 64
+  image : image_reading (image saved.checkpoint.rows) ≡ Ok saved.checkpoint.rows
 
-open-reading : (behind : List ℕ) (saved : Saved) → 32 ≤ length behind → saved_in (open_gate ∷ behind) ≡ Ok saved → slot_reading (open_gate ∷ behind) ≡ Open saved
-open-reading behind saved long is =
+is-printed : (saved : Saved) → IsSaved saved → IsPrinted saved
+is-printed saved is = record { first = is.first; seq = is.seq; life = is.life; image = is.image }
+
+-- what it is read as, by that number
+abbrev read_by : (fits : Bool) → Saved → Result Saved ℕ
+read_by fits saved = cond {A = Result Saved ℕ} fits (Ok saved) (Err 41)
+
+abbrev read_as : Saved → Result Saved ℕ
+read_as saved = read_by (nat_le (length saved.checkpoint.rows) rows_limit) saved
+
+saved-as : (bytes : List ℕ) (saved : Saved) → seq_in bytes ≡ saved.seq → life_in bytes ≡ saved.checkpoint.life → saved_as bytes (Ok saved.checkpoint.rows) ≡ read_as saved
+saved-as bytes saved seq life =
+    ap₂ (λ s l. read_as (record { seq = s; checkpoint = record { life = l; rows = saved.checkpoint.rows } })) seq life
+
+open-reading : (behind : List ℕ) (read : Result Saved ℕ) → 32 ≤ length behind → saved_in (open_gate ∷ behind) ≡ read → slot_reading (open_gate ∷ behind) ≡ as_open read
+open-reading behind read long is =
     ap (λ b. cond (b && true) (as_open (saved_in (open_gate ∷ behind))) SlotReading.Shut) (fits-test 33 (length (open_gate ∷ behind)) (omega arith)) ∙ ap as_open is
 
 plain-saved : (bytes : List ℕ) → take 8 (drop 1 bytes) ≡ magic → saved_in bytes ≡ unless_fault (plain_fault bytes) (saved_as bytes (image_reading (image_in bytes)))
@@ -147,13 +163,13 @@ unfolding saved_in
 digest-saved bytes is = ap (λ m. cond (bytes_eq m magic) (unless_fault (plain_fault bytes) (saved_as bytes (image_reading (image_in bytes))))
     (cond (bytes_eq m digest_magic) (unless_fault (digest_fault bytes) (saved_as bytes (image_reading (image_in bytes)))) (Err 1))) is
 
-image-saved : (bytes magic_in tail : List ℕ) (saved : Saved) → IsSaved saved → ReadsAs bytes magic_in saved (image saved.checkpoint.rows) tail → saved_as bytes (image_reading (image_in bytes)) ≡ Ok saved
+image-saved : (bytes magic_in tail : List ℕ) (saved : Saved) → IsPrinted saved → ReadsAs bytes magic_in saved (image saved.checkpoint.rows) tail → saved_as bytes (image_reading (image_in bytes)) ≡ read_as saved
 image-saved bytes magic_in tail saved is reads =
-    ap (λ i. saved_as bytes (image_reading i)) reads.image ∙ ap (saved_as bytes) is.image ∙ saved-as bytes saved reads.seq reads.life is.few
+    ap (λ i. saved_as bytes (image_reading i)) reads.image ∙ ap (saved_as bytes) is.image ∙ saved-as bytes saved reads.seq reads.life
 
 -- a slot of the first format
-pub printed-plain : (saved : Saved) (rest : List ℕ) → IsSaved saved → slot_reading (plain_slot saved ++ rest) ≡ Open saved
-printed-plain saved rest is =
+plain-as : (saved : Saved) (rest : List ℕ) → IsPrinted saved → slot_reading (plain_slot saved ++ rest) ≡ as_open (read_as saved)
+plain-as saved rest is =
     let i = image saved.checkpoint.rows in
     let bytes = plain_slot saved ++ rest in
     let short = image-short i saved.checkpoint.rows is.image in
@@ -164,7 +180,7 @@ printed-plain saved rest is =
       };
     } in
     let reads = reads-as bytes magic saved i rest parts is.seq is.life (omega arith) in
-    open-reading (fields magic saved ++ rest) saved (omega (arith, reads.long))
+    open-reading (fields magic saved ++ rest) (read_as saved) (omega (arith, reads.long))
     (plain-saved bytes reads.magic
     ∙ ap (λ fault. unless_fault fault (saved_as bytes (image_reading (image_in bytes))))
     (ap₂ (λ a b. checked a 9 (checked b (length bytes) None)) (fits-test 1 (seq_in bytes) (omega (arith, reads.seq, is.first))) (fits-test (image_len bytes) (length bytes - 33) (omega (arith, reads.len, reads.long))))
@@ -175,8 +191,8 @@ unfolding digest
 length-digest bytes = length-sha256 bytes
 
 -- a slot of the second format
-pub printed : (saved : Saved) (rest : List ℕ) → IsSaved saved → slot_reading (slot saved ++ rest) ≡ Open saved
-printed saved rest is =
+digest-as : (saved : Saved) (rest : List ℕ) → IsPrinted saved → slot_reading (slot saved ++ rest) ≡ as_open (read_as saved)
+digest-as saved rest is =
     let i = image saved.checkpoint.rows in
     let f = fields digest_magic saved in
     let d = digest f in
@@ -199,13 +215,37 @@ printed saved rest is =
     ∙ take_at d rest 32 thirty_two in
     let same : bytes_eq (digest (digested bytes)) (digest_in bytes) ≡ true =
     ap₂ bytes_eq (ap digest fields_in) digest_there ∙ (bytes_eq-Decides d d).1 refl in
-    open-reading ((f ++ d) ++ rest) saved (omega (arith, reads.long))
+    open-reading ((f ++ d) ++ rest) (read_as saved) (omega (arith, reads.long))
     (digest-saved bytes reads.magic
     ∙ ap (λ fault. unless_fault fault (saved_as bytes (image_reading (image_in bytes))))
     (ap₂ (λ a b. checked a 9 (checked b (length bytes) (checked (bytes_eq (digest (digested bytes)) (digest_in bytes)) (33 + image_len bytes) None)))
     (fits-test 1 (seq_in bytes) (omega (arith, reads.seq, is.first))) (fits-test (image_len bytes + 32) (length bytes - 33) (omega (arith, reads.len, reads.long, tail)))
     ∙ ap (λ c. checked c (33 + image_len bytes) None) same)
     ∙ image-saved bytes digest_magic (d ++ rest) saved is reads)
+
+-- few enough rows, or too many
+few-read : (saved : Saved) → length saved.checkpoint.rows ≤ rows_limit → as_open (read_as saved) ≡ Open saved
+few-read saved few = ap (λ b. as_open (read_by b saved)) (fits-test (length saved.checkpoint.rows) rows_limit few)
+
+many-read : (saved : Saved) → rows_limit < length saved.checkpoint.rows → as_open (read_as saved) ≡ Faulty 41
+many-read saved many = ap (λ b. as_open (read_by b saved)) (past-test (length saved.checkpoint.rows) rows_limit many)
+  where
+    past-test : (m n : ℕ) → n < m → nat_le m n ≡ false
+    past-test m n h = grind (arith, nat_tests)
+
+pub printed-plain : (saved : Saved) (rest : List ℕ) → IsSaved saved → slot_reading (plain_slot saved ++ rest) ≡ Open saved
+printed-plain saved rest is = plain-as saved rest (is-printed saved is) ∙ few-read saved is.few
+
+pub printed : (saved : Saved) (rest : List ℕ) → IsSaved saved → slot_reading (slot saved ++ rest) ≡ Open saved
+printed saved rest is = digest-as saved rest (is-printed saved is) ∙ few-read saved is.few
+
+pub too-many-plain : (saved : Saved) (rest : List ℕ) → 1 ≤ saved.seq → saved.seq < 2 ^ 64 → saved.checkpoint.life < 2 ^ 64 → image_reading (image saved.checkpoint.rows) ≡ Ok saved.checkpoint.rows
+    → rows_limit < length saved.checkpoint.rows → slot_reading (plain_slot saved ++ rest) ≡ Faulty 41
+too-many-plain saved rest first seq life image many = plain-as saved rest (record { first = first; seq = seq; life = life; image = image }) ∙ many-read saved many
+
+pub too-many : (saved : Saved) (rest : List ℕ) → 1 ≤ saved.seq → saved.seq < 2 ^ 64 → saved.checkpoint.life < 2 ^ 64 → image_reading (image saved.checkpoint.rows) ≡ Ok saved.checkpoint.rows
+    → rows_limit < length saved.checkpoint.rows → slot_reading (slot saved ++ rest) ≡ Faulty 41
+too-many saved rest first seq life image many = digest-as saved rest (record { first = first; seq = seq; life = life; image = image }) ∙ many-read saved many
 
 -- what is written behind a gate fits a slot
 pub body-fits : (saved : Saved) → IsSaved saved → 1 + length (body saved) ≤ 60_000_101

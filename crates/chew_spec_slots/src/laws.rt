@@ -1,5 +1,6 @@
 //! Laws of the definitions.
 
 mod crashes;
+mod known;
 mod recovery;
 mod slots;

@@ -3,7 +3,7 @@
 ghost use Rattle.std.specs.Prelude.{◌≡◌, ℕ, ◌<◌, ◌≤◌, false, List, [], ◌∷◌, length, Option, Some, None};
 ghost use Rattle.chew_spec_slots.specs.Reading.{Faulty, Open, Shut, SlotReading, is_open, slot_reading};
 ghost use Rattle.chew_spec_slots.specs.Recovery.{Newest, Recovered, Recovery, TooLarge, damage, newest, recovered, refusal};
-ghost use Rattle.chew_spec_slots.specs.Slot.{Saved, length_limit, no_checkpoint};
+ghost use Rattle.chew_spec_slots.specs.Slot.{Saved, length_limit, no_checkpoint, rows_limit};
 
 /// Of two open slots the one with the greater seq counts, and slot 0 of equal ones.
 pub fn newer_counts()
@@ -18,6 +18,12 @@ pub fn newer_counts()
 pub fn refused_slots()
     ensures shut { (slot : ℕ) (bytes : List ℕ) → length bytes ≤ length_limit → is_open bytes ≡ false → refusal slot bytes ≡ None }
     ensures too_large { (slot : ℕ) (bytes : List ℕ) → length_limit < length bytes → refusal slot bytes ≡ Some (TooLarge slot (length bytes)) }
+{}
+
+/// A slot has at most 2^28 bytes and 200,000 rows.
+pub fn limits_of_slots()
+    ensures bytes { length_limit ≡ 268_435_456 }
+    ensures rows { rows_limit ≡ 200_000 }
 {}
 
 /// Two slots that hold nothing, or a gate that is shut, recover to the empty map.

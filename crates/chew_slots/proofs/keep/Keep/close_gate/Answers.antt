@@ -1,9 +1,11 @@
 -- By what the two device calls answer.
-use Rattle.std.proofs.Common.{[], ◌∷◌, sym, ◌∙◌, subst}
+use Rattle.std.proofs.Common.{[], ◌∷◌, cond, sym, ap, ◌∙◌, subst}
 use Rattle.chew_spec_disk.specs.Sync.{SyncAnswers}
 use Rattle.chew_spec_disk.specs.Write.{WriteAnswers}
 use Rattle.chew_spec_slots.proofs.Stages.{shuts-already, shuts-as, shuts-by-calls, shuts-failed, stage-gate, stage-gate-failed, stage-start, stage-sync-failed}
 use Rattle.chew_spec_disk.proofs.Calls.{write-done}
+use Rattle.chew_spec_outside.specs.Faults.{risen}
+use Rattle.chew_slots.proofs.Moments.{sync-rises, write-rises}
 use Rattle.chew_slots.proofs.keep.Keep.close_gate.Goals as goal
 
 pub returns-then-is_shut-clause-shuts : goal.returns-then-is_shut-clause-shuts
@@ -49,3 +51,27 @@ returns-clause-shuts g c told fits =
     shuts-as keep before _ _ after _ c.set_shut.ensures
     (shuts-by-calls keep before now after c.write_at.result c.sync.result tt fits unsure (c.write_at.ensures.is_disk told) (c.sync.ensures.is_disk told_now)
     wrote (sym c.is_err.ensures.value ∙ c.if-is_err.false) synced (sym c.is_err-2.ensures.value ∙ c.if-is_err-2.false))
+
+pub returns-then-is_err-clause-calls : goal.returns-then-is_err-clause-calls
+returns-then-is_err-clause-calls g c told =
+    write-rises c.target-slot.result 0 (0 ∷ []) (g.D.Disk.state c.args.disk.now) (g.D.Disk.state c.write_at.new.self) c.write_at.result (c.write_at.ensures.answer told)
+
+pub returns-then-is_err-2-clause-calls : goal.returns-then-is_err-2-clause-calls
+returns-then-is_err-2-clause-calls g c told =
+    let before = g.D.Disk.state c.args.disk.now in
+    let now = g.D.Disk.state c.write_at.new.self in
+    sync-rises c.target-slot.result now (g.D.Disk.state c.sync.new.self) c.sync.result (c.sync.ensures.answer (c.write_at.ensures.told ∙ told))
+    ∙ ap risen (write-rises c.target-slot.result 0 (0 ∷ []) before now c.write_at.result (c.write_at.ensures.answer told))
+
+pub returns-clause-calls : goal.returns-clause-calls
+returns-clause-calls g c told =
+    let before = g.D.Disk.state c.args.disk.now in
+    let now = g.D.Disk.state c.write_at.new.self in
+    sync-rises c.target-slot.result now (g.D.Disk.state c.sync.new.self) c.sync.result (c.sync.ensures.answer (c.write_at.ensures.told ∙ told))
+    ∙ ap risen (write-rises c.target-slot.result 0 (0 ∷ []) before now c.write_at.result (c.write_at.ensures.answer told))
+    ∙ sym (ap (λ b. cond b before.moment (risen (risen before.moment))) (sym c.is_shut.ensures ∙ c.if-is_shut.false))
+
+pub returns-then-is_shut-clause-calls : goal.returns-then-is_shut-clause-calls
+returns-then-is_shut-clause-calls g c told =
+    let before = g.D.Disk.state c.args.disk.now in
+    sym (ap (λ b. cond b before.moment (risen (risen before.moment))) (sym c.is_shut.ensures ∙ c.if-is_shut.true))

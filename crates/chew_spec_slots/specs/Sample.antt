@@ -1,0 +1,47 @@
+-- Known slots, for the known values.
+use Rattle.std.specs.Prelude.{ℕ, List, [], ◌∷◌, ◌++◌, drop}
+use Rattle.chew_spec_image.specs.Sample.{one_row, one_row_image, patched}
+use Rattle.chew_spec_slots.specs.Slot.{Saved}
+
+-- 測試 with the frequency 9318, as the first checkpoint of a map after one learn
+abbrev pub one_row_saved : Saved
+one_row_saved = record { seq = 1; checkpoint = record { life = 1; rows = one_row ∷ [] } }
+
+-- the open gate, the magic of the first format, seq 1, life 1, the length of an image of 94 bytes, and the image
+abbrev pub one_row_plain_slot : List ℕ
+one_row_plain_slot =
+    0xA5
+    ∷ 0x43 ∷ 0x48 ∷ 0x45 ∷ 0x57 ∷ 0x53 ∷ 0x4C ∷ 0x54 ∷ 0x31
+    ∷ 0x01 ∷ 0x00 ∷ 0x00 ∷ 0x00 ∷ 0x00 ∷ 0x00 ∷ 0x00 ∷ 0x00
+    ∷ 0x01 ∷ 0x00 ∷ 0x00 ∷ 0x00 ∷ 0x00 ∷ 0x00 ∷ 0x00 ∷ 0x00
+    ∷ 0x5E ∷ 0x00 ∷ 0x00 ∷ 0x00 ∷ 0x00 ∷ 0x00 ∷ 0x00 ∷ 0x00
+    ∷ one_row_image
+
+-- the same with the magic of the second format, before the digest
+abbrev pub one_row_front : List ℕ
+one_row_front =
+    0xA5
+    ∷ 0x43 ∷ 0x48 ∷ 0x45 ∷ 0x57 ∷ 0x53 ∷ 0x4C ∷ 0x54 ∷ 0x32
+    ∷ 0x01 ∷ 0x00 ∷ 0x00 ∷ 0x00 ∷ 0x00 ∷ 0x00 ∷ 0x00 ∷ 0x00
+    ∷ 0x01 ∷ 0x00 ∷ 0x00 ∷ 0x00 ∷ 0x00 ∷ 0x00 ∷ 0x00 ∷ 0x00
+    ∷ 0x5E ∷ 0x00 ∷ 0x00 ∷ 0x00 ∷ 0x00 ∷ 0x00 ∷ 0x00 ∷ 0x00
+    ∷ one_row_image
+
+-- the SHA-256 of these 126 bytes behind the gate
+abbrev pub one_row_digest : List ℕ
+one_row_digest =
+    0x38 ∷ 0x86 ∷ 0x3B ∷ 0xAB ∷ 0x87 ∷ 0x24 ∷ 0x1B ∷ 0x51
+    ∷ 0x97 ∷ 0xC3 ∷ 0xBC ∷ 0x87 ∷ 0x9F ∷ 0x8E ∷ 0x1C ∷ 0x47
+    ∷ 0x30 ∷ 0xEE ∷ 0x58 ∷ 0x36 ∷ 0xC2 ∷ 0xE6 ∷ 0xAB ∷ 0xE3
+    ∷ 0x87 ∷ 0xDC ∷ 0xD8 ∷ 0xE1 ∷ 0x88 ∷ 0x0C ∷ 0x56 ∷ 0xD2 ∷ []
+
+abbrev pub one_row_slot : List ℕ
+one_row_slot = one_row_front ++ one_row_digest
+
+-- all bytes but the gate
+abbrev pub behind_gate : List ℕ → List ℕ
+behind_gate bytes = drop 1 bytes
+
+-- the first format with another seq, and with life 2
+abbrev pub life_two : (seq : ℕ) → List ℕ
+life_two seq = patched (patched one_row_plain_slot 9 (seq ∷ [])) 17 (2 ∷ [])
