@@ -1,0 +1,10 @@
+pub mod Views
+pub mod Sights
+pub mod Moving
+pub mod Numbering
+pub mod Tickets
+pub mod Serving
+pub mod Joining
+pub mod Ends
+pub mod Glue
+pub mod Gathering

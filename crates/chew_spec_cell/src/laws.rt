@@ -1,0 +1,4 @@
+//! Laws of the definitions.
+
+mod passes;
+mod seen;

@@ -1,0 +1,4 @@
+//! Definitions of a cell that threads share: its passes, what they have seen of its history, and what a turn adds.
+#![tactic(auto)]
+
+mod laws;
