@@ -1,15 +1,17 @@
-ghost use Rattle.std.specs.Prelude.{◌≡◌, ◌-◌, ◌<◌, ◌≤◌, ◌==◌, suc, IfSome, IsTrue, drop, if◌then◌else◌, length, slice_get, take};
+ghost use Rattle.std.specs.Prelude.{◌≡◌, ◌-◌, ◌<◌, ◌≤◌, ◌==◌, suc, IfOk, IfSome, IsTrue, drop, if◌then◌else◌, length, slice_get, take};
 ghost use Rattle.std.specs.List.{list_all};
 ghost use Rattle.std.specs.Option.{option_copied};
 ghost use Rattle.chew_spec_preedit.specs.Window.{has_candidate, is_falling, is_window, next_page, on_page, opened, page_before, pages_of, picked, rows_shown, shorter};
 
-use crate::candidate_list::CandList;
+use crate::candidate_list::{CandList, lists_copied};
 use chew_phrasing::Choice;
 use chew_plain::Hit;
+use chew_syllable::NoMemory;
+use std::alloc::Global;
 use std::marker::Model;
 
 /// The lists of candidates for a place of the buffer, the longest first, and what is shown of them now: a page of a list.
-/// No call of it takes memory.
+/// Only `copy` takes memory.
 #[derive(Debug, Drop)]
 pub struct Window {
     place: u8,
@@ -48,6 +50,20 @@ impl Window {
             list: 0,
             page: 1,
         }
+    }
+
+    /// The same window once more.
+    pub fn copy(&self, alloc: Global) -> Result<Window, NoMemory>
+        ensures { IfOk result (λ window. window ≡ self.now) }
+    {
+        let lists = lists_copied(alloc, self.lists.as_slice())?;
+        Ok(Window {
+            place: self.place,
+            lists,
+            per_page: self.per_page,
+            list: self.list,
+            page: self.page,
+        })
     }
 
     /// The place in the buffer of the candidates' first cell.

@@ -1,9 +1,11 @@
-ghost use Rattle.std.specs.Prelude.{◌≡◌, ◌≤◌, IsTrue, map};
+ghost use Rattle.std.specs.Prelude.{◌≡◌, ◌+◌, ◌≤◌, ◌&&◌, IsTrue, drop, length, map, nat_le, take};
+ghost use Rattle.std.specs.List.{list_all};
 ghost use Rattle.chew_spec_preedit.specs.Buffer.{empty_buffer, is_buffer};
+ghost use Rattle.chew_spec_preedit.specs.Cell.{has_sound, is_sound};
 ghost use Rattle.chew_spec_preedit.specs.Edit.{can_break, is_full};
 ghost use Rattle.chew_preedit.specs.CellItem.{cell_of};
 
-use crate::cell_item::{CellItem, cells_behind, is_sound_at};
+use crate::cell_item::{CellItem, are_sounds, cells_behind, is_sound_at};
 use crate::copied::{breaks_copied, choices_copied};
 use crate::splice::CELL_LIMIT;
 use arrayvec::ArrayVec;
@@ -87,6 +89,25 @@ impl Preedit {
         ensures { result ≡ is_full self.now }
     {
         usize::from(self.limit) <= self.cells.len()
+    }
+
+    /// Whether there is a syllable at a place.
+    pub fn has_sound(&self, place: usize) -> bool
+        ensures { result ≡ has_sound self.now.cells place }
+    {
+        is_sound_at(&self.cells, place)
+    }
+
+    /// Whether so many cells from the cursor on are there, all of them syllables.
+    pub fn has_sounds_ahead(&self, len: u8) -> bool
+        ensures { result ≡ (nat_le (self.now.cursor + len) (length self.now.cells) && list_all is_sound (take len (drop self.now.cursor self.now.cells))) }
+    {
+        let start = usize::from(self.cursor);
+        let end = start + usize::from(len);
+        if end > self.cells.len() {
+            return false;
+        }
+        are_sounds(self.cells.as_slice(), start, end)
     }
 
     /// Whether a syllable stands right before the cursor and one right behind it.

@@ -1,0 +1,13 @@
+//! Tests of the pre-edit buffer and the window of candidates.
+#![tactic(auto)]
+
+#[cfg(test)]
+mod edits;
+#[cfg(test)]
+mod marked;
+#[cfg(test)]
+mod samples;
+#[cfg(test)]
+mod walk;
+#[cfg(test)]
+mod windows;
