@@ -1,3 +1,6 @@
-pub mod Kept
+pub mod Lists
+pub mod Outcome
+pub mod Phrasable
 pub mod Pressed
-pub mod Shown
+pub mod Spans
+pub mod State

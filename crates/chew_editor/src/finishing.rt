@@ -1,93 +1,143 @@
-ghost use Rattle.std.specs.Prelude.{◌≡◌, ◌<◌, ◌≤◌, [], All, IfOk, IsTrue, length, map, true};
-ghost use Rattle.std.specs.List.{list_all};
-ghost use Rattle.chew_spec_syllable.specs.Row.{is_row};
-ghost use Rattle.chew_spec_dictionary.specs.Call.{is_hit};
-ghost use Rattle.chew_spec_dictionary.specs.System.{has_single};
-ghost use Rattle.chew_spec_editor.specs.Finish.{finish, rows_in};
-ghost use Rattle.chew_spec_phrasing.specs.Best.{best_pieces};
-ghost use Rattle.chew_spec_phrasing.specs.Combined.{combined_hits};
+ghost use Rattle.std.specs.Prelude.{◌≡◌, ◌≤◌, IfOk, List, Option, drop, length, map, option_and_then, option_to_list};
+ghost use Rattle.std.specs.Option.{option_map_or};
+ghost use Rattle.chew_spec_phrasing.specs.Usable.{Piece};
+ghost use Rattle.chew_spec_preedit.specs.PlacedRun.{run_at, runs_of};
+ghost use Rattle.chew_spec_preedit.specs.Window.{Window};
+ghost use Rattle.chew_spec_editor.specs.Answers.{AreAnswers};
+ghost use Rattle.chew_spec_editor.specs.Finish.{finish, window_at};
+ghost use Rattle.chew_spec_editor.specs.Invariant.{HasSingles};
+ghost use Rattle.chew_spec_editor.specs.Pending.{calls_of, runs_asked};
 ghost use Rattle.chew_plain.specs.Call.{reply_of};
-ghost use Rattle.chew_editor.specs.Kept.{CoverCells, most_cells};
+ghost use Rattle.chew_editor.specs.Phrasable.{ArePhrasable, HasPlace};
+ghost use Rattle.chew_editor.specs.State.{editor_of, state_of};
 
+use crate::asked::Asked;
+use crate::candidates::window_at;
 use crate::editor::Editor;
+use crate::line::line_of;
+use crate::noting::note_after;
 use crate::pending::Pending;
-use crate::shown::line_at_end;
-use chew_phrasing::{Piece, best_of_run};
-use chew_plain::{Hit, Lexicon, Reply};
-use chew_script::{Line, Note, Text};
-use chew_syllable::{NoMemory, Run, Syllable};
+use crate::phrasing::{hits_in, phrased};
+use crate::rows::all_are_rows;
+use crate::state::{State, Typing};
+use arrayvec::ArrayVec;
+use chew_candidates::Window;
+use chew_plain::{Lexicon, Reply};
+use chew_preedit::{PlacedRun, Preedit};
+use chew_script::Line;
+use chew_syllable::NoMemory;
 use std::alloc::Global;
+use std::cmp::min;
 
-/// What the replies to a key's calls make of the editor. Where memory is refused, the editor is gone.
+/// The most runs of a buffer.
+const RUN_LIMIT: usize = 20;
+
+/// What the replies to a key's calls, one a call, make of the editor, and the line that shows it then. Where memory is
+/// refused, the editor is gone.
 pub fn finish<L: Lexicon>(
     alloc: Global,
     pending: Pending,
     system: &L,
     replies: Vec<Reply>,
 ) -> Result<(Editor, Line), NoMemory>
-    requires { All (λ code. has_single (L.rows system.now) code ≡ true) pending.pending.editor.cells }
-    ensures editor { IfOk result (λ done. done.0.editor ≡ (finish (L.rows system.now) pending.pending (map reply_of replies.items)).editor) }
-    ensures line { IfOk result (λ done. done.1 ≡ (finish (L.rows system.now) pending.pending (map reply_of replies.items)).line) }
-    ensures settings { IfOk result (λ done. done.0.settings ≡ pending.settings) }
-    ensures singles { IfOk result (λ done. All (λ code. has_single (L.rows system.now) code ≡ true) done.0.editor.cells) }
+    requires singles { HasSingles (L.rows system.now) pending.editor.buffer.cells }
+    requires answers { AreAnswers pending (map reply_of replies.items) }
+    ensures editor { IfOk result (λ done. done.0 ≡ (finish (L.rows system.now) pending (map reply_of replies.items)).editor) }
+    ensures line { IfOk result (λ done. done.1 ≡ (finish (L.rows system.now) pending (map reply_of replies.items)).line) }
+    ensures singles { IfOk result (λ done. HasSingles (L.rows system.now) done.0.buffer.cells) }
 {
-    let pieces = phrased(
-        alloc,
-        system,
-        pending.cells.as_slice(),
-        hits_in(replies.as_slice()),
-    )?;
-    let editor = Editor {
-        settings: pending.settings,
-        layout: pending.layout,
-        cells: pending.cells,
-        pieces,
-    };
-    let line = line_at_end(
-        alloc,
-        &editor.layout,
-        editor.pieces.as_slice(),
-        Text::new(alloc),
-        Note::Quiet,
-    )?;
-    Ok((editor, line))
+    all_are_rows(system);
+    let (state, line) = finished(alloc, pending.asked, system, replies.as_slice())?;
+    Ok((Editor { state }, line))
 }
 
-/// The rows that the reply to the look-up of the run gives.
-fn hits_in(replies: &[Reply]) -> &[Hit]
-    ensures value { result.now ≡ rows_in (map reply_of replies.now) }
-    ensures valid { IsTrue (list_all is_hit result.now) }
+/// The same of the state.
+fn finished<L: Lexicon>(
+    alloc: Global,
+    asked: Asked,
+    system: &L,
+    replies: &[Reply],
+) -> Result<(State, Line), NoMemory>
+    requires one_each { length replies.now ≡ length (calls_of asked) }
+    requires runs { ArePhrasable (L.rows system.now) asked.editor.buffer (runs_asked asked) (drop (length asked.changes) (map reply_of replies.now)) }
+    requires place { HasPlace (runs_asked asked) asked.opens }
+    requires some { 1 ≤ asked.editor.settings.page }
+    requires few { asked.editor.settings.page ≤ 10 }
+    ensures state { IfOk result (λ done. state_of done.0 ≡ (finish (L.rows system.now) asked (map reply_of replies.now)).editor) }
+    ensures line { IfOk result (λ done. done.1 ≡ (finish (L.rows system.now) asked (map reply_of replies.now)).line) }
 {
-    match replies {
-        [Reply::Rows(hits), ..] => hits.list(),
-        _ => &[],
+    let state = asked.state;
+    let typing = state.typing;
+    let had = state.pieces;
+    // the changes come first among the calls, so that their replies do too
+    let count = min(asked.change_count, replies.len());
+    let looked = &replies[count..];
+    let asked_runs = runs_asked(&typing.preedit, asked.opens);
+    let runs = asked_runs.as_slice();
+    let pieces = phrased(alloc, system, &typing.preedit, had, runs, looked)?;
+    let window = window_opened(alloc, system, &typing, runs, looked, asked.opens)?;
+    let note = note_after(asked.note, &replies[..count]);
+    let line = line_of(alloc, &typing, &pieces, &window, asked.commit, note)?;
+    let finished = State {
+        typing,
+        pieces,
+        window,
+    };
+    Ok((finished, line))
+}
+
+/// The runs that are looked up: where a window opens the run at its place, else all.
+fn runs_asked(preedit: &Preedit, opens: Option<u8>) -> ArrayVec<PlacedRun, RUN_LIMIT>
+    ensures { result.items ≡ option_map_or (λ place. option_to_list (run_at preedit.now.cells place)) opens (runs_of preedit.now.cells) }
+{
+    match opens {
+        Some(place) => one_run(preedit.run_at(place)),
+        None => preedit.runs(),
     }
 }
 
-/// What every lexicon keeps: its rows are rows. It does nothing, and is there for proofs alone.
-fn all_are_rows<L: Lexicon>(system: &L)
-    ensures { IsTrue (list_all is_row (L.rows system.now)) }
+/// A run by itself, where there is one.
+fn one_run(run: Option<PlacedRun>) -> ArrayVec<PlacedRun, RUN_LIMIT>
+    ensures { result.items ≡ option_to_list run }
 {
-    let _none = system.count(&[]);
+    let mut runs = ArrayVec::new();
+    if let Some(run) = run {
+        runs.push(run);
+    }
+    runs
 }
 
-/// The best pieces of the cells.
-fn phrased<L: Lexicon>(
+/// The window, where one opens.
+fn window_opened<L: Lexicon>(
     alloc: Global,
     system: &L,
-    cells: &[Syllable],
-    hits: &[Hit],
-) -> Result<Vec<Piece>, NoMemory>
-    requires singles { All (λ code. has_single (L.rows system.now) code ≡ true) cells.now }
-    requires some { 0 < length cells.now }
-    requires short { length cells.now ≤ most_cells }
-    requires valid { IsTrue (list_all is_hit hits.now) }
-    ensures best { IfOk result (λ pieces. pieces.items ≡ best_pieces (combined_hits (L.rows system.now) cells.now hits.now) [] [] (length cells.now)) }
-    ensures cover { IfOk result (λ pieces. CoverCells (length cells.now) pieces.items) }
+    typing: &Typing,
+    runs: &[PlacedRun],
+    replies: &[Reply],
+    opens: Option<u8>,
+) -> Result<Option<Window>, NoMemory>
+    requires place { HasPlace runs.now opens }
+    requires some { 1 ≤ typing.now.settings.page }
+    requires few { typing.now.settings.page ≤ 10 }
+    ensures { (pieces : List Piece) (had : Option Window) → IfOk result (λ window. window
+        ≡ option_and_then (window_at (L.rows system.now) (editor_of typing.now pieces had) runs.now (map reply_of replies.now)) opens) }
 {
-    all_are_rows(system);
-    match Run::of(cells) {
-        Some(run) => best_of_run(alloc, system, &run, hits, &[], &[]),
-        None => unreachable!(),
+    match opens {
+        Some(place) => match runs {
+            [run, ..] => match replies {
+                [reply, ..] => window_at(
+                    alloc,
+                    system,
+                    &typing.preedit,
+                    run,
+                    hits_in(reply),
+                    place,
+                    typing.settings.page,
+                ),
+                [] => Ok(None),
+            },
+            [] => Ok(None),
+        },
+        None => Ok(None),
     }
 }

@@ -11,7 +11,7 @@ use Rattle.chew_spec_layout.specs.Step.{Step, Kept, Whole, Refused, Erased, NotM
 use Rattle.chew_spec_layout.specs.Table.{Table, backspace, columns_of, fed, holds_something, nothing_held}
 use Rattle.chew_spec_layout.specs.Table as table
 use Rattle.chew_spec_layout.proofs.AnyLayout.{feed-cleared}
-use Rattle.chew_spec_editor.specs.Keys.{is_whole}
+use Rattle.chew_spec_editor.specs.Completion.{is_whole}
 
 -- a step that is whole has a code
 whole-code : (step : Step) → is_whole step ≡ true → (code : ℕ) × (step ≡ Whole code)

@@ -1,44 +1,63 @@
--- The state of an editor, and the line that shows it. For now there are no breaks, no choices and no window,
--- no cell is a symbol, and the cursor stays behind the cells.
-use Rattle.std.specs.Prelude.{ℕ, List, [], flat_map, take, chars, false}
+-- The state of an editor, and the line that shows it.
+use Rattle.std.specs.Prelude.{ℕ, List, [], ◌∷◌, ◌++◌, flat_map, take, zip, codes, decimal, false, Option, None}
+use Rattle.std.specs.Option.{option_map_or}
 use Rattle.unicode_width.specs.Width.{str_width}
 use Rattle.chew_spec_layout.specs.Layout.{Layout, new_layout, shown}
+use Rattle.chew_spec_dictionary.specs.Call.{Hit}
 use Rattle.chew_spec_phrasing.specs.Usable.{Piece}
+use Rattle.chew_spec_preedit.specs.Buffer.{Buffer, empty_buffer}
+use Rattle.chew_spec_preedit.specs.Shown as preedit
+use Rattle.chew_spec_preedit.specs.Window.{Window, on_page, pages_of}
 use Rattle.chew_spec_text.specs.Line.{Line, Note}
-pub use Rattle.chew_spec_editor.specs.Settings.{Settings}
+use Rattle.chew_spec_editor.specs.Settings.{Settings}
 
--- the layout and what it holds, the syllables of the pre-edit buffer by their codes, the place of the cursor among
--- them, and the pieces that are shown for them
+-- what its user has set; the layout and what it holds; the pre-edit buffer; the pieces that are shown for all its runs, by
+-- their places in the buffer; and the window of candidates, where one is open
 pub record Editor : Type 0 where
-  pub layout : Layout
-  pub cells : List ℕ
-  pub cursor : ℕ
-  pub pieces : List Piece
-
--- an editor, and what its user has set
-pub record Configured : Type 0 where
   pub settings : Settings
-  pub editor : Editor
+  pub layout : Layout
+  pub buffer : Buffer
+  pub pieces : List Piece
+  pub window : Option Window
 
 -- nothing held and no cell
 abbrev pub empty_editor : Settings → Editor
-empty_editor settings = record { layout = new_layout settings.layout; cells = []; cursor = 0; pieces = [] }
+empty_editor settings = record {
+  settings = settings;
+  layout = new_layout settings.layout;
+  buffer = empty_buffer settings.buffer;
+  pieces = [];
+  window = None;
+}
+
+-- a character for each cell
+abbrev pub characters_of : Editor → List ℕ
+characters_of editor = preedit.characters_of editor.pieces editor.buffer.cells
 
 -- the pre-edit text
 abbrev pub shown_text : Editor → List ℕ
-shown_text editor = flat_map (λ piece. piece.phrase) editor.pieces
+shown_text editor = preedit.shown_text editor.pieces editor.buffer.cells
 
 -- the columns that the text before the cursor takes
 abbrev pub column_of : Editor → ℕ
-column_of editor = str_width false (take editor.cursor (chars (shown_text editor)))
+column_of editor = str_width false (take editor.buffer.cursor (characters_of editor))
+
+-- a candidate behind a space and the key that picks it
+abbrev pub candidate_text : ℕ × Hit → List ℕ
+candidate_text (key, hit) = 32 ∷ (key ∷ hit.phrase)
+
+-- the page, the number of pages, and the candidates of the page
+unfoldable pub window_text : List ℕ → Window → List ℕ
+window_text selection window =
+    decimal window.page ++ (codes "/" ++ (decimal (pages_of window) ++ flat_map candidate_text (zip selection (on_page window))))
 
 -- the line that shows an editor, with what the key committed
-abbrev pub line_of : Editor → List ℕ → Note → Line
+unfoldable pub line_of : Editor → List ℕ → Note → Line
 line_of editor commit note = record {
   preedit = shown_text editor;
   column = column_of editor;
   held = shown editor.layout;
   commit = commit;
-  window = [];
+  window = option_map_or (window_text editor.settings.selection) editor.window [];
   note = note;
 }

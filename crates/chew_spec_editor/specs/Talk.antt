@@ -5,9 +5,12 @@ use Rattle.chew_spec_syllable.specs.Row.{Row}
 use Rattle.chew_spec_dictionary.specs.Call.{Call, Reply}
 use Rattle.chew_spec_text.specs.KeyStroke.{KeyStroke}
 use Rattle.chew_spec_text.specs.Line.{Line}
-use Rattle.chew_spec_editor.specs.Editor.{Settings, Editor, empty_editor}
+use Rattle.chew_spec_editor.specs.Editor.{Editor, empty_editor}
 use Rattle.chew_spec_editor.specs.Finish.{finish}
-use Rattle.chew_spec_editor.specs.Press.{Pending, Pressed, Done, Ask, press}
+use Rattle.chew_spec_editor.specs.Keys.{press}
+use Rattle.chew_spec_editor.specs.Pending.{Pending, calls_of}
+use Rattle.chew_spec_editor.specs.Press.{Pressed, Done, Ask}
+use Rattle.chew_spec_editor.specs.Settings.{Settings}
 
 -- a talk: the calls that the handled keys made, a line for each of these keys, the editor then, and the replies that
 -- they did not take
@@ -42,9 +45,9 @@ pub record Turn : Type 0 where
 -- the turn of a key that asked calls, where there is a reply to each
 abbrev pub answered_turn : List Row → Pending → List Reply → Option Turn
 answered_turn system pending replies =
-    let finished = finish system pending (take (length pending.calls) replies) in
-    if nat_le (length pending.calls) (length replies)
-    then Some (record { calls = pending.calls; line = finished.line; editor = finished.editor })
+    let finished = finish system pending (take (length (calls_of pending)) replies) in
+    if nat_le (length (calls_of pending)) (length replies)
+    then Some (record { calls = calls_of pending; line = finished.line; editor = finished.editor })
     else None
 
 abbrev pub turn_after : List Row → Pressed → List Reply → Option Turn
@@ -52,17 +55,17 @@ turn_after system (Done editor line) replies = Some (record { calls = []; line =
 turn_after system (Ask pending) replies = answered_turn system pending replies
 
 -- the turn of a key
-abbrev pub turn_of : List Row → Settings → Editor → KeyStroke → List Reply → Option Turn
-turn_of system settings editor key replies = turn_after system (press system settings editor key) replies
+abbrev pub turn_of : List Row → Editor → KeyStroke → List Reply → Option Turn
+turn_of system editor key replies = turn_after system (press system editor key) replies
 
 -- the talk from an editor on: each key takes as many replies as it has calls, and it stops where too few are left
-unfoldable pub talk_from : List Row → Settings → Editor → List KeyStroke → List Reply → Talk
-talk_from system settings editor [] replies = silence editor replies
-talk_from system settings editor (key ∷ keys) replies =
+unfoldable pub talk_from : List Row → Editor → List KeyStroke → List Reply → Talk
+talk_from system editor [] replies = silence editor replies
+talk_from system editor (key ∷ keys) replies =
     option_map_or
-    (λ turn. after_key turn.calls turn.line (talk_from system settings turn.editor keys (drop (length turn.calls) replies)))
-    (turn_of system settings editor key replies) (silence editor replies)
+    (λ turn. after_key turn.calls turn.line (talk_from system turn.editor keys (drop (length turn.calls) replies)))
+    (turn_of system editor key replies) (silence editor replies)
 
 -- the talk from an empty editor
 abbrev pub talk : List Row → Settings → List KeyStroke → List Reply → Talk
-talk system settings keys replies = talk_from system settings (empty_editor settings) keys replies
+talk system settings keys replies = talk_from system (empty_editor settings) keys replies

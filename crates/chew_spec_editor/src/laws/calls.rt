@@ -1,24 +1,30 @@
 //! Laws of the calls that talks make.
 
-ghost use Rattle.std.specs.Prelude.{◌≡◌, ◌≤◌, List, true};
+ghost use Rattle.std.specs.Prelude.{◌≡◌, ◌++◌, ℕ, IsTrue, List, Some, slice_get};
 ghost use Rattle.std.specs.List.{list_all};
-ghost use Rattle.chew_spec_syllable.specs.Row.{Row};
-ghost use Rattle.chew_spec_dictionary.specs.Call.{Reply};
-ghost use Rattle.chew_spec_text.specs.KeyStroke.{KeyStroke};
-ghost use Rattle.chew_spec_editor.specs.Editor.{Editor, Settings};
-ghost use Rattle.chew_spec_editor.specs.Keys.{calls_asked};
-ghost use Rattle.chew_spec_editor.specs.Press.{press};
-ghost use Rattle.chew_spec_editor.specs.Sound.{AreRows, IsPlaced, is_editors};
+ghost use Rattle.chew_spec_syllable.specs.Row.{Row, is_row};
+ghost use Rattle.chew_spec_dictionary.specs.Call.{Call, Reply};
+ghost use Rattle.chew_spec_dictionary.specs.History.{is_user_call};
+ghost use Rattle.chew_spec_text.specs.KeyStroke.{KeyStroke, is_key_stroke};
+ghost use Rattle.chew_spec_editor.specs.Answers.{AreFoundBefore};
+ghost use Rattle.chew_spec_editor.specs.Editor.{Editor};
+ghost use Rattle.chew_spec_editor.specs.Invariant.{is_editor, is_settings};
+ghost use Rattle.chew_spec_editor.specs.Keys.{calls_asked, press};
+ghost use Rattle.chew_spec_editor.specs.Settings.{Settings};
 ghost use Rattle.chew_spec_editor.specs.Talk.{talk};
 
-/// Where the system has rows and the buffer takes no more cells than a run has syllables, each call of a talk is one that
-/// an editor may make, and so is each that the next key asks.
+/// Where the system's rows are rows, each call that a key asks is one that an editor may make; and so is each call of a talk,
+/// and of the key behind it, where the look-ups before that call had what a dictionary finds as their replies.
 pub fn editors_make_their_calls()
-    ensures asked { (system : List Row) (settings : Settings) (editor : Editor) (key : KeyStroke) → AreRows system → settings.buffer ≤ 39
-        → IsPlaced system settings editor → list_all is_editors (calls_asked (press system settings editor key)) ≡ true }
-    ensures talk { (system : List Row) (settings : Settings) (keys : List KeyStroke) (replies : List Reply) → AreRows system → settings.buffer ≤ 39
-        → list_all is_editors (talk system settings keys replies).calls ≡ true }
-    ensures next { (system : List Row) (settings : Settings) (keys : List KeyStroke) (replies : List Reply) (next : KeyStroke)
-        → AreRows system → settings.buffer ≤ 39
-        → list_all is_editors (calls_asked (press system settings (talk system settings keys replies).editor next)) ≡ true }
+    ensures asked { (system : List Row) (editor : Editor) (key : KeyStroke) → IsTrue (list_all is_row system) → IsTrue (is_editor editor)
+        → IsTrue (is_key_stroke key) → IsTrue (list_all is_user_call (calls_asked (press system editor key))) }
+    ensures talk { (system : List Row) (settings : Settings) (keys : List KeyStroke) (replies : List Reply) (k : ℕ) (call : Call)
+        → IsTrue (list_all is_row system) → IsTrue (is_settings settings) → IsTrue (list_all is_key_stroke keys)
+        → AreFoundBefore k (talk system settings keys replies).calls replies → slice_get (talk system settings keys replies).calls k ≡ Some call
+        → IsTrue (is_user_call call) }
+    ensures next { (system : List Row) (settings : Settings) (keys : List KeyStroke) (replies : List Reply) (next : KeyStroke) (k : ℕ) (call : Call)
+        → IsTrue (list_all is_row system) → IsTrue (is_settings settings) → IsTrue (list_all is_key_stroke keys) → IsTrue (is_key_stroke next)
+        → AreFoundBefore k ((talk system settings keys replies).calls ++ calls_asked (press system (talk system settings keys replies).editor next)) replies
+        → slice_get ((talk system settings keys replies).calls ++ calls_asked (press system (talk system settings keys replies).editor next)) k ≡ Some call
+        → IsTrue (is_user_call call) }
 {}

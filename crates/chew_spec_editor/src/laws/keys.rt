@@ -1,91 +1,58 @@
-//! Laws of single keys.
+//! Laws of what keys do.
 
-ghost use Rattle.std.specs.Prelude.{◌≡◌, ◌++◌, ◌∷◌, ◌<◌, ◌≤◌, [], false, length, List, true, ℕ};
+ghost use Rattle.std.specs.Prelude.{◌≡◌, ◌≢◌, ℕ, ◌+◌, ◌-◌, ◌<◌, [], List, IsFalse, IsTrue, length, Some, None};
 ghost use Rattle.chew_spec_syllable.specs.Row.{Row};
-ghost use Rattle.chew_spec_layout.specs.Layout.{cleared, feed, holds, is_layout, Layout, new_layout};
-ghost use Rattle.chew_spec_layout.specs.Step.{Whole};
-ghost use Rattle.chew_spec_layout.specs.Table.{backspace};
+ghost use Rattle.chew_spec_layout.specs.Layout.{holds};
 ghost use Rattle.chew_spec_dictionary.specs.Call.{Reply};
-ghost use Rattle.chew_spec_dictionary.specs.System.{has_single};
-ghost use Rattle.chew_spec_text.specs.KeyStroke.{Backspace, Char, Enter, Esc, KeyStroke};
-ghost use Rattle.chew_spec_text.specs.Line.{Bell, Line, Quiet};
-ghost use Rattle.chew_spec_editor.specs.Editor.{Editor, empty_editor, line_of, Settings, shown_text};
+ghost use Rattle.chew_spec_preedit.specs.Edit.{break_toggled, can_break};
+ghost use Rattle.chew_spec_preedit.specs.Buffer.{Buffer, is_buffer};
+ghost use Rattle.chew_spec_preedit.specs.Window.{Window};
+ghost use Rattle.chew_spec_text.specs.KeyStroke.{KeyStroke, Left, Right, Home, End, Tab};
+ghost use Rattle.chew_spec_text.specs.Line.{Line, Bell};
+ghost use Rattle.chew_spec_editor.specs.Editor.{Editor};
 ghost use Rattle.chew_spec_editor.specs.Finish.{finish};
-ghost use Rattle.chew_spec_editor.specs.Keys.{completes, is_built};
-ghost use Rattle.chew_spec_editor.specs.Press.{asking, bell, Done, emptied, inserted, Pending, press, quiet};
+ghost use Rattle.chew_spec_editor.specs.Keys.{press};
+ghost use Rattle.chew_spec_editor.specs.Pending.{Pending, calls_of};
+ghost use Rattle.chew_spec_editor.specs.Press.{Ask, Done, bell, edit, go_to};
+ghost use Rattle.chew_spec_editor.specs.Rung.{layout_rung};
 
-/// Enter commits the text that was shown, and leaves the editor without its cells, which is the empty one; it is a bell
-/// while the layout holds something, and where there is no cell.
-#[tactic(auto, unfolding(crate::specs::Press::press))]
-pub fn enter_commits()
-    ensures commits { (system : List Row) (settings : Settings) (editor : Editor) → holds editor.layout ≡ false → 0 < length editor.cells
-        → press system settings editor Enter ≡ Done (emptied editor) (line_of (emptied editor) (shown_text editor) Quiet) }
-    ensures empty { (settings : Settings) (editor : Editor) → is_layout editor.layout ≡ true → cleared editor.layout ≡ new_layout settings.layout
-        → holds editor.layout ≡ false → emptied editor ≡ empty_editor settings }
-    ensures rings_while_held { (system : List Row) (settings : Settings) (editor : Editor) → holds editor.layout ≡ true
-        → press system settings editor Enter ≡ bell editor }
-    ensures rings_at_no_cell { (system : List Row) (settings : Settings) (editor : Editor) → length editor.cells ≡ 0
-        → press system settings editor Enter ≡ bell editor }
+/// A key that rings commits nothing and changes nothing, but that a whole syllable which isn't taken is dropped from the
+/// layout.
+pub fn bells_change_nothing()
+    ensures plain { (system : List Row) (editor after : Editor) (key : KeyStroke) (line : Line) → editor.window ≡ None
+        → press system editor key ≡ Done after line → line.note ≡ Bell → after ≡ record editor { layout = layout_rung editor key } }
+    ensures window { (system : List Row) (editor after : Editor) (key : KeyStroke) (line : Line) (window : Window) → editor.window ≡ Some window
+        → press system editor key ≡ Done after line → line.note ≡ Bell → after ≡ editor }
+    ensures commit { (system : List Row) (editor after : Editor) (key : KeyStroke) (line : Line)
+        → press system editor key ≡ Done after line → line.note ≡ Bell → line.commit ≡ [] }
+    ensures asked { (system : List Row) (editor : Editor) (key : KeyStroke) (pending : Pending) (replies : List Reply)
+        → press system editor key ≡ Ask pending → (finish system pending replies).line.note ≢ Bell }
 {}
 
-/// Backspace takes a part or a letter of what the layout holds, and asks nothing; where it holds nothing, Backspace is a
-/// bell that changes nothing.
-pub fn backspace_erases()
-    ensures erases { (system : List Row) (settings : Settings) (editor : Editor) → holds editor.layout ≡ true
-        → press system settings editor Backspace ≡ quiet (record editor { layout = (feed editor.layout backspace).layout }) }
-    ensures rings { (system : List Row) (settings : Settings) (editor : Editor) → holds editor.layout ≡ false
-        → press system settings editor Backspace ≡ bell editor }
+/// A key that asks has a call.
+pub fn keys_that_ask_have_calls()
+    ensures { (system : List Row) (editor : Editor) (key : KeyStroke) (pending : Pending)
+        → press system editor key ≡ Ask pending → 0 < length (calls_of pending) }
 {}
 
-/// Esc leaves nothing held where the layout holds something, and asks nothing; where it holds nothing, Esc is a bell that
-/// changes nothing.
-#[tactic(auto, unfolding(crate::specs::Press::press))]
-pub fn esc_clears()
-    ensures clears { (system : List Row) (settings : Settings) (editor : Editor) → holds editor.layout ≡ true
-        → press system settings editor Esc ≡ quiet (record editor { layout = cleared editor.layout }) }
-    ensures nothing_held { (layout : Layout) → holds (cleared layout) ≡ false }
-    ensures rings { (system : List Row) (settings : Settings) (editor : Editor) → holds editor.layout ≡ false
-        → press system settings editor Esc ≡ bell editor }
+/// While nothing is held and no window is open, a move changes the cursor alone, and rings where there is no way.
+pub fn moves_change_the_cursor()
+    ensures left { (system : List Row) (editor : Editor) → editor.window ≡ None → IsFalse (holds editor.layout) → 0 < editor.buffer.cursor
+        → press system editor Left ≡ go_to editor (editor.buffer.cursor - 1) }
+    ensures right { (system : List Row) (editor : Editor) → editor.window ≡ None → IsFalse (holds editor.layout)
+        → editor.buffer.cursor < length editor.buffer.cells → press system editor Right ≡ go_to editor (editor.buffer.cursor + 1) }
+    ensures home { (system : List Row) (editor : Editor) → editor.window ≡ None → IsFalse (holds editor.layout)
+        → press system editor Home ≡ go_to editor 0 }
+    ensures end { (system : List Row) (editor : Editor) → editor.window ≡ None → IsFalse (holds editor.layout)
+        → press system editor End ≡ go_to editor (length editor.buffer.cells) }
+    ensures start { (system : List Row) (editor : Editor) → editor.window ≡ None → editor.buffer.cursor ≡ 0 → press system editor Left ≡ bell editor }
+    ensures last { (system : List Row) (editor : Editor) → editor.window ≡ None → editor.buffer.cursor ≡ length editor.buffer.cells
+        → press system editor Right ≡ bell editor }
 {}
 
-/// A key that isn't built is a bell that changes nothing.
-pub fn other_keys_ring()
-    ensures { (system : List Row) (settings : Settings) (editor : Editor) (key : KeyStroke) → is_built key ≡ false
-        → press system settings editor key ≡ bell editor }
-{}
-
-/// A bell changes nothing and commits nothing; but a whole syllable that is refused clears the layout.
-pub fn bell_changes_nothing()
-    ensures same { (system : List Row) (settings : Settings) (editor after : Editor) (key : KeyStroke) (line : Line)
-        → press system settings editor key ≡ Done after line → line.note ≡ Bell → completes editor key ≡ false → after ≡ editor }
-    ensures cleared { (system : List Row) (settings : Settings) (editor after : Editor) (key : KeyStroke) (line : Line)
-        → press system settings editor key ≡ Done after line → line.note ≡ Bell → completes editor key ≡ true
-        → after ≡ record editor { layout = cleared editor.layout } }
-    ensures commit { (system : List Row) (settings : Settings) (editor after : Editor) (key : KeyStroke) (line : Line)
-        → press system settings editor key ≡ Done after line → line.note ≡ Bell → line.commit ≡ [] }
-{}
-
-/// A whole syllable is taken exactly where the system has a row for it alone and there is room: it stands behind the
-/// cells, and all cells are looked up. Else the key is a bell. The layout holds nothing then, either way.
-pub fn syllable_taken_or_refused()
-    ensures taken { (system : List Row) (settings : Settings) (editor : Editor) (byte code : ℕ)
-        → (feed editor.layout byte).step ≡ Whole code → has_single system code ≡ true → length editor.cells < settings.buffer
-        → press system settings editor (Char byte) ≡ asking (inserted (record editor { layout = cleared editor.layout }) code) }
-    ensures behind { (editor : Editor) (code : ℕ) → editor.cursor ≡ length editor.cells
-        → (inserted editor code).cells ≡ editor.cells ++ code ∷ [] }
-    ensures unknown { (system : List Row) (settings : Settings) (editor : Editor) (byte code : ℕ)
-        → (feed editor.layout byte).step ≡ Whole code → has_single system code ≡ false
-        → press system settings editor (Char byte) ≡ bell (record editor { layout = cleared editor.layout }) }
-    ensures full { (system : List Row) (settings : Settings) (editor : Editor) (byte code : ℕ)
-        → (feed editor.layout byte).step ≡ Whole code → settings.buffer ≤ length editor.cells
-        → press system settings editor (Char byte) ≡ bell (record editor { layout = cleared editor.layout }) }
-{}
-
-/// The replies to a key's calls change the pieces that are shown and nothing else, and commit nothing.
-#[tactic(auto, unfolding(crate::specs::Finish::finish))]
-pub fn replies_change_pieces_alone()
-    ensures editor { (system : List Row) (pending : Pending) (replies : List Reply)
-        → (finish system pending replies).editor ≡ record pending.editor { pieces = (finish system pending replies).editor.pieces } }
-    ensures commit { (system : List Row) (pending : Pending) (replies : List Reply) → (finish system pending replies).line.commit ≡ [] }
-    ensures note { (system : List Row) (pending : Pending) (replies : List Reply) → (finish system pending replies).line.note ≡ Quiet }
+/// Tab sets a break or clears it, and twice leaves the breaks as they were.
+pub fn tabs_set_and_clear()
+    ensures key { (system : List Row) (editor : Editor) → editor.window ≡ None → IsFalse (holds editor.layout) → IsTrue (can_break editor.buffer)
+        → press system editor Tab ≡ edit system editor (break_toggled editor.buffer) }
+    ensures twice { (buffer : Buffer) → IsTrue (is_buffer buffer) → (break_toggled (break_toggled buffer)).breaks ≡ buffer.breaks }
 {}

@@ -1,49 +1,40 @@
--- The pieces have one character a cell, so that they are short and the cursor stands behind them.
-use Rattle.std.specs.Prelude.{◌≡◌, true, All, [], map, length}
-use Rattle.std.proofs.Common.{ap, ap₂, sym, subst, arith, ◌∙◌}
-use Rattle.chew_spec_phrasing.specs.Best.{best_pieces}
-use Rattle.chew_spec_phrasing.specs.Combined.{combined_hits}
-use Rattle.chew_spec_text.specs.Line.{Quiet}
-use Rattle.chew_spec_dictionary.specs.System.{has_single}
-use Rattle.chew_spec_editor.specs.Finish.{rows_in}
-use Rattle.chew_spec_editor.specs.Press.{ConfiguredPending}
-use Rattle.chew_layouts.specs.Layouts.{layout_of}
-use Rattle.chew_plain.specs.Call.{call_of, reply_of}
-use Rattle.chew_editor.specs.Kept.{CoverCells}
-use Rattle.chew_editor.specs.Shown.{line_at_end}
-use Rattle.chew_editor.proofs.Finished.{finish-editor, finish-line}
-use Rattle.chew_editor.proofs.Lines.{length-text_of_pieces-le}
+-- The pending editor's runs can be phrased, so that what is left is an editor.
+use Rattle.std.proofs.Common.{◌≡◌, List, ap, map, subst, sym, true, ◌∙◌}
+use Rattle.chew_spec_preedit.specs.Cell.{Cell}
+use Rattle.chew_spec_editor.specs.Editor.{Editor}
+use Rattle.chew_spec_editor.specs.Invariant.{HasSingles, is_editor}
+use Rattle.chew_spec_editor.specs.Pending.{Pending}
+use Rattle.chew_spec_editor.proofs.Finished.{is_editor-finish}
+use Rattle.chew_plain.specs.Call.{reply_of}
+use Rattle.chew_editor.proofs.FinishedState.{finished-cells, same-answers}
+use Rattle.chew_editor.proofs.RunsAsked.{phrasable-asked, place-asked}
 use Rattle.chew_editor.proofs.finishing.finish.Goals as goal
 
-pub line_at_end-requires : goal.line_at_end-requires
-line_at_end-requires g c =
-    let short = length-text_of_pieces-le _ _ c.in_ok-pieces.ensures.cover in
-    rw c.as_slice-3.ensures.value (omega (arith, ap length c.as_slice.ensures.value))
-
-pub invariant_of-editor : goal.invariant_of-editor
-invariant_of-editor g c = (
-  c.pending.invariant.1,
-  c.pending.invariant.2,
-  subst (λ cells. CoverCells (length cells) c.in_ok-pieces.pieces.items) c.as_slice.ensures.value c.in_ok-pieces.ensures.cover,
-)
-
-pub returns-clause-editor : goal.returns-clause-editor
-returns-clause-editor g c =
+pub finished-requires-clause-runs : goal.finished-requires-clause-runs
+finished-requires-clause-runs g c =
     let system = g.L.Lexicon.rows c.args.system.now in
-    let inside = c.pending.inside in
-    finish-editor system c.args.pending (map reply_of c.args.replies.items) inside.settings (layout_of inside.layout) inside.cells.items inside.pieces.items
-    c.in_ok-pieces.pieces.items (map call_of inside.calls.items) c.hits_in.result.now c.pending.view_is
-    (c.hits_in.ensures.value ∙ ap (λ replies. rows_in (map reply_of replies)) c.as_slice-2.ensures.value)
-    (subst (λ cells. c.in_ok-pieces.pieces.items ≡ best_pieces (combined_hits system cells c.hits_in.result.now) [] [] (length cells)) c.as_slice.ensures.value c.in_ok-pieces.ensures.best)
+    let asked = c.pending.inside.asked in
+    phrasable-asked system asked (map reply_of c.as_slice.result.now) c.all_are_rows.ensures
+    (subst (λ (p : Pending). HasSingles system p.editor.buffer.cells) (sym c.pending.view_is) c.requires.singles) c.pending.invariant.0
+    (same-answers reply_of c.args.pending asked c.args.replies.items c.as_slice.result.now c.pending.view_is c.as_slice.ensures.value c.requires.answers)
 
-pub returns-clause-line : goal.returns-clause-line
-returns-clause-line g c =
-    let inside = c.pending.inside in
-    finish-line (g.L.Lexicon.rows c.args.system.now) c.args.pending (map reply_of c.args.replies.items) (layout_of inside.layout) inside.cells.items
-    c.in_ok-pieces.pieces.items c.in_ok-line.line (returns-clause-editor g c)
-    (subst (λ cells. CoverCells (length cells) c.in_ok-pieces.pieces.items) c.as_slice.ensures.value c.in_ok-pieces.ensures.cover)
-    (c.in_ok-line.ensures ∙ ap₂ (λ pieces commit. line_at_end (layout_of inside.layout) pieces commit Quiet) c.as_slice-3.ensures.value c.new.ensures)
+pub finished-requires-clause-place : goal.finished-requires-clause-place
+finished-requires-clause-place g c = place-asked c.pending.inside.asked c.pending.invariant.0
+
+pub invariant_of-result : goal.invariant_of-result
+invariant_of-result g c =
+    let system = g.L.Lexicon.rows c.args.system.now in
+    let asked = c.pending.inside.asked in
+    subst (λ (e : Editor). is_editor e ≡ true) (sym c.in_ok-state.ensures.state)
+    (is_editor-finish system asked (map reply_of c.as_slice.result.now) c.all_are_rows.ensures
+    (subst (λ (p : Pending). HasSingles system p.editor.buffer.cells) (sym c.pending.view_is) c.requires.singles) c.pending.invariant.0
+    (same-answers reply_of c.args.pending asked c.args.replies.items c.as_slice.result.now c.pending.view_is c.as_slice.ensures.value c.requires.answers))
 
 pub returns-clause-singles : goal.returns-clause-singles
 returns-clause-singles g c =
-    subst (λ (whole : ConfiguredPending). All (λ code. has_single (g.L.Lexicon.rows c.args.system.now) code ≡ true) whole.pending.editor.cells) (sym c.pending.view_is) c.requires
+    let system = g.L.Lexicon.rows c.args.system.now in
+    let asked = c.pending.inside.asked in
+    subst (λ (cells : List Cell). HasSingles system cells)
+    (sym (ap (λ (e : Editor). e.buffer.cells) c.in_ok-state.ensures.state
+    ∙ ap (λ buffer. buffer.cells) (finished-cells system asked (map reply_of c.as_slice.result.now))))
+    (subst (λ (p : Pending). HasSingles system p.editor.buffer.cells) (sym c.pending.view_is) c.requires.singles)

@@ -6,5 +6,5 @@ pub returns-clause-asked : goal.returns-clause-asked
 returns-clause-asked c = turn_of-calls
 
 pub returns-clause-same : goal.returns-clause-same
-returns-clause-same c = λ system settings editor key replies others turn other first second.
-    turn_of-calls system settings editor key replies turn first ∙ sym (turn_of-calls system settings editor key others other second)
+returns-clause-same c = λ system editor key replies others turn other first second.
+    turn_of-calls system editor key replies turn first ∙ sym (turn_of-calls system editor key others other second)

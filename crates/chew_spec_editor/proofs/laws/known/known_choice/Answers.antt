@@ -1,0 +1,17 @@
+-- By computing the keys.
+use Rattle.std.proofs.Common.{refl}
+use Rattle.unicode_width.proofs.Computing.{unicode_width}
+use Rattle.chew_spec_editor.proofs.Computing.{typing}
+use Rattle.chew_spec_editor.proofs.laws.known.known_choice.Goals as goal
+
+pub returns-clause-window : goal.returns-clause-window
+unfolding typing unicode_width
+returns-clause-window c = refl
+
+pub returns-clause-second : goal.returns-clause-second
+unfolding typing unicode_width
+returns-clause-second c = refl
+
+pub returns-clause-first : goal.returns-clause-first
+unfolding typing unicode_width
+returns-clause-first c = refl

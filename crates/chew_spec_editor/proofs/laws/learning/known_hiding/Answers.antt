@@ -1,0 +1,13 @@
+-- By computing the keys.
+use Rattle.std.proofs.Common.{refl}
+use Rattle.unicode_width.proofs.Computing.{unicode_width}
+use Rattle.chew_spec_editor.proofs.Computing.{typing}
+use Rattle.chew_spec_editor.proofs.laws.learning.known_hiding.Goals as goal
+
+pub returns-clause-calls : goal.returns-clause-calls
+unfolding typing unicode_width
+returns-clause-calls c = refl
+
+pub returns-clause-left : goal.returns-clause-left
+unfolding typing unicode_width
+returns-clause-left c = refl

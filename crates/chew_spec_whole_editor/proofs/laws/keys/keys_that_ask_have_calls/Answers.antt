@@ -1,5 +1,0 @@
-use Rattle.chew_spec_whole_editor.proofs.Bells.{some-calls}
-use Rattle.chew_spec_whole_editor.proofs.laws.keys.keys_that_ask_have_calls.Goals as goal
-
-pub returns : goal.returns
-returns c = some-calls

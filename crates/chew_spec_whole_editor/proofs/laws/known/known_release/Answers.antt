@@ -1,9 +1,0 @@
--- By computing the keys.
-use Rattle.std.proofs.Common.{refl}
-use Rattle.unicode_width.proofs.Computing.{unicode_width}
-use Rattle.chew_spec_whole_editor.proofs.Computing.{typing}
-use Rattle.chew_spec_whole_editor.proofs.laws.known.known_release.Goals as goal
-
-pub returns : goal.returns
-unfolding typing unicode_width
-returns c = refl

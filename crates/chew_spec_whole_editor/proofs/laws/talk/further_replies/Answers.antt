@@ -1,5 +1,0 @@
-use Rattle.chew_spec_whole_editor.proofs.Talks.{more_replies}
-use Rattle.chew_spec_whole_editor.proofs.laws.talk.further_replies.Goals as goal
-
-pub returns : goal.returns
-returns c = more_replies
