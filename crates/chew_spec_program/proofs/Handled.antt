@@ -27,7 +27,7 @@ fronts-same one other first second =
 pub handles-within : (basis : Basis) (journal : List Entry) (who : ℕ) (keys : List KeyStroke) (count : ℕ) (lines : List Line)
     → Handles basis journal who keys count lines → count ≤ length keys
 handles-within basis journal who keys count lines handles =
-    let some = few_lines basis.system basis.settings (empty_editor basis.settings) (take count keys) (replies basis.start journal who) in
+    let some = few_lines basis.system (empty_editor basis.settings) (take count keys) (replies basis.start journal who) in
     omega (arith, some, ap length handles.talked, handles.each, length-take count keys)
 
 pub handles-all : (basis : Basis) (journal : List Entry) (who : ℕ) (keys : List KeyStroke) (lines : List Line)

@@ -7,8 +7,7 @@ use Rattle.chew_spec_dictionary.specs.Growth.{IsFront}
 use Rattle.chew_spec_text.specs.KeyStroke.{KeyStroke}
 use Rattle.chew_spec_text.specs.Line.{Line}
 use Rattle.chew_spec_editor.specs.Editor.{Editor}
-use Rattle.chew_spec_editor.specs.Keys.{calls_asked}
-use Rattle.chew_spec_editor.specs.Press.{press}
+use Rattle.chew_spec_editor.specs.Keys.{calls_asked, press}
 use Rattle.chew_spec_editor.specs.Settings.{Settings}
 use Rattle.chew_spec_editor.specs.Talk.{Talk, talk}
 
@@ -25,7 +24,7 @@ talk_in basis journal who keys = talk basis.system basis.settings keys (replies 
 -- the calls that the first of these keys asks
 abbrev pub next_calls : Basis → Editor → List KeyStroke → List Call
 next_calls basis editor [] = []
-next_calls basis editor (key ∷ keys) = calls_asked (press basis.system basis.settings editor key)
+next_calls basis editor (key ∷ keys) = calls_asked (press basis.system editor key)
 
 -- the calls of a talk, and those that the first of these keys asks then
 abbrev pub calls_with_next : Basis → Talk → List KeyStroke → List Call

@@ -5,7 +5,7 @@ use Rattle.chew_spec_dictionary.specs.History.{Point, start_of}
 use Rattle.chew_spec_dictionary.specs.Order.{in_order}
 use Rattle.chew_spec_text.specs.DictionaryText.{dictionary_rows, system_limit}
 use Rattle.chew_spec_text.specs.Script.{Script, script_limit, script_of}
-use Rattle.chew_spec_editor.specs.Settings.{standard_settings}
+use Rattle.chew_spec_editor.specs.Settings.{Settings, standard_settings}
 use Rattle.chew_spec_program.specs.Command.{is_run_command}
 use Rattle.chew_spec_program.specs.Context.{Basis}
 use Rattle.chew_spec_program.specs.Reading.{IsReadWhere, Watched}
@@ -16,13 +16,13 @@ pub record Inputs : Type 0 where
   pub basis : Basis
   pub script : Script
 
--- a user's dictionary without a pair
-abbrev pub nothing_learnt : Point
-nothing_learnt = start_of (record { pairs = []; life = 0; cap = 65_536 })
+-- a user's dictionary without a pair, which takes as many as the settings say
+abbrev pub nothing_learnt : Settings → Point
+nothing_learnt settings = start_of (record { pairs = []; life = 0; cap = settings.cap })
 
 -- a run over these rows, put in image order, stands on them, the standard settings and a dictionary without a pair
 abbrev pub basis_of : List Row → Basis
-basis_of rows = record { system = in_order image_cmp rows; settings = standard_settings; start = nothing_learnt }
+basis_of rows = record { system = in_order image_cmp rows; settings = standard_settings; start = nothing_learnt standard_settings }
 
 -- a value, or the refusal that its fault makes
 abbrev pub or_refusal : {X F : Type 0} → (F → Refusal) → Result X F → Result X Refusal

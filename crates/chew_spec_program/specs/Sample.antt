@@ -1,9 +1,9 @@
 -- What laws speak of: a run over the five rows, and two contexts whose calls stand among each other.
 use Rattle.std.specs.Prelude.{ℕ, List, [], ◌∷◌, ◌++◌, codes, map}
-use Rattle.chew_spec_dictionary.specs.Call.{Look}
+use Rattle.chew_spec_dictionary.specs.Call.{Learn, Look}
 use Rattle.chew_spec_dictionary.specs.FiveRows.{ce4, five_rows, shi4}
 use Rattle.chew_spec_dictionary.specs.History.{Entry}
-use Rattle.chew_spec_text.specs.KeyStroke.{KeyStroke, Char}
+use Rattle.chew_spec_text.specs.KeyStroke.{KeyStroke, Char, Home, Down}
 use Rattle.chew_spec_text.specs.Line.{Line, Quiet}
 use Rattle.chew_spec_text.specs.Sample.{bytes_of}
 use Rattle.chew_spec_program.specs.Context.{Basis}
@@ -40,6 +40,10 @@ second_lines = plain_line [] 0 (bytes_of "ㄕ") ∷ (plain_line (bytes_of "是")
 abbrev pub look_by : ℕ → List ℕ → Entry
 look_by who run = record { who = who; call = Look run }
 
+-- a learn by a number, with the system's frequency of the pair and its greatest for the key
+abbrev pub learn_by : ℕ → List ℕ → List ℕ → ℕ → ℕ → Entry
+learn_by who key phrase orig peak = record { who = who; call = Learn key phrase orig peak }
+
 -- the second context's look-up stands between those of the first
 abbrev pub both_journal : List Entry
 both_journal = look_by 1 (ce4 ∷ []) ∷ (look_by 2 (shi4 ∷ []) ∷ (look_by 1 (ce4 ∷ (shi4 ∷ [])) ∷ []))
@@ -54,3 +58,17 @@ short_journal = look_by 1 (ce4 ∷ []) ∷ (look_by 2 (shi4 ∷ []) ∷ [])
 
 abbrev pub long_journal : List Entry
 long_journal = both_journal ++ look_by 1 (ce4 ∷ (shi4 ∷ [])) ∷ []
+
+-- keys that open the candidates of two syllables, and their lines where somebody learnt 策是 before
+abbrev pub opening_keys : List KeyStroke
+opening_keys = first_keys ++ (Home ∷ (Down ∷ []))
+
+abbrev pub opening_lines : List Line
+opening_lines = first_lines ++ (plain_line (bytes_of "測試") 0 [] ∷ (record (plain_line (bytes_of "測試") 0 []) { window = bytes_of "1/1 1測試 2策是" } ∷ []))
+
+-- their look-ups, and what the second context learnt before them
+abbrev pub opening_journal : List Entry
+opening_journal = look_by 1 (ce4 ∷ []) ∷ (look_by 1 (ce4 ∷ (shi4 ∷ [])) ∷ (look_by 1 (ce4 ∷ (shi4 ∷ [])) ∷ []))
+
+abbrev pub taught_journal : List Entry
+taught_journal = learn_by 2 (ce4 ∷ (shi4 ∷ [])) (bytes_of "策是") 0 9318 ∷ opening_journal

@@ -8,7 +8,7 @@ use Rattle.chew_spec_text.specs.Sample.{bytes_of, five_lines}
 use Rattle.chew_spec_program.specs.Opening.{Inputs}
 use Rattle.chew_spec_program.specs.Reading.{watched}
 use Rattle.chew_spec_program.specs.Run.{Ended, Outside}
-use Rattle.chew_spec_program.specs.Sample.{five_basis, look_by}
+use Rattle.chew_spec_program.specs.Sample.{five_basis, learn_by, look_by}
 use Rattle.chew_spec_program.specs.Writing.{sunk}
 
 -- the texts of its inputs
@@ -25,9 +25,12 @@ five_keys = map Char (codes "hk4g4") ++ Enter ∷ []
 abbrev pub five_inputs : Inputs
 five_inputs = record { basis = five_basis; script = record { contexts = five_keys ∷ []; rounds = 0 } }
 
--- its calls
+-- its look-ups, and all its calls: Enter learns what it commits
+abbrev pub five_looks : List Entry
+five_looks = look_by 1 (ce4 ∷ []) ∷ (look_by 1 (ce4 ∷ (shi4 ∷ [])) ∷ [])
+
 abbrev pub five_journal : List Entry
-five_journal = look_by 1 (ce4 ∷ []) ∷ (look_by 1 (ce4 ∷ (shi4 ∷ [])) ∷ [])
+five_journal = five_looks ++ learn_by 1 (ce4 ∷ (shi4 ∷ [])) (bytes_of "測試") 9318 9318 ∷ []
 
 -- its output, without and with the line of Enter
 abbrev pub before_enter : List ℕ

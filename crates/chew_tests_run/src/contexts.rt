@@ -1,6 +1,6 @@
 //! Several contexts, one after another over one dictionary, and the lines of refused inputs.
 
-use crate::runs::{ends, looks, ran};
+use crate::runs::{TYPED, calls, ends, ran};
 use chew_samples::FIVE_ROWS;
 use std::test::Fail;
 
@@ -14,11 +14,12 @@ fn each_context_has_its_own_lines(rt: HostRuntime) -> Result<(), Fail> {
         "context 1\n\t0\tㄘ\t\t\t\n\t0\tㄘㄜ\t\t\t\n策\t2\t\t\t\t\ncontext 2\n\t0\tㄕ\t\t\t\n是\t2\t\t\t\t\n\t0\t\t是\t\t\n",
         &[3, 3],
     );
-    looks(
+    calls(
         &rt,
+        rt.alloc(),
         run.0.journal.as_slice(),
-        &[(1, &[10268]), (2, &[8708])],
-    );
+        "1 look 10268\n2 look 8708\n2 learn 8708 是 9000 9000\n",
+    )?;
     Ok(())
 }
 
@@ -32,7 +33,48 @@ fn contexts_before_the_greatest_have_a_header(rt: HostRuntime) -> Result<(), Fai
         "context 1\ncontext 2\ncontext 3\n\t0\tㄘ\t\t\t\n\t0\tㄘㄜ\t\t\t\n策\t2\t\t\t\t\n",
         &[0, 0, 3],
     );
-    looks(&rt, run.0.journal.as_slice(), &[(3, &[10268])]);
+    calls(&rt, rt.alloc(), run.0.journal.as_slice(), "3 look 10268\n")?;
+    Ok(())
+}
+
+/// One context adds 策是, and hides 測試; the next finds both.
+#[test]
+fn contexts_share_what_they_teach(rt: HostRuntime) -> Result<(), Fail> {
+    let alloc = rt.alloc();
+    let run = ran(
+        alloc,
+        FIVE_ROWS,
+        "1:hk4g4<L><T><H><C2>\n2:hk4g4<H><V><X><K2>\n3:hk4g4\n",
+    )?;
+    let first = "測試\t2\t\t\t\t\n策是\t2\t\t\t\t\n策是\t0\t\t\t\t\n策是\t0\t\t\t\tadded\n";
+    let second = "測試\t0\t\t\t\t\n測試\t0\t\t\t1/1 1測試 2策是\t\n測試\t0\t\t\t\t\n策是\t0\t\t\t\thidden\n";
+    let third = "\t0\tㄘ\t\t\t\n\t0\tㄘㄜ\t\t\t\n策\t2\t\t\t\t\n策\t2\tㄕ\t\t\t\n策是\t4\t\t\t\t\n";
+    let printed = format!(in alloc;
+        "context 1\n{TYPED}{first}context 2\n{TYPED}{second}context 3\n{third}"
+    )?;
+    ends(&rt, &run, 0, &printed, &[9, 9, 5]);
+    calls(
+        &rt,
+        alloc,
+        run.0.journal.as_slice(),
+        "1 look 10268\n1 look 10268,8708\n1 look 10268,8708\n1 learn 10268,8708 策是 0 9318\n1 look 10268,8708\n2 look 10268\n2 look 10268,8708\n2 look 10268,8708\n2 hide 10268,8708 測試\n2 look 10268,8708\n3 look 10268\n3 look 10268,8708\n",
+    )?;
+    Ok(())
+}
+
+/// Each of two contexts commits 測試 six times, and 策 once: 40 lines and 20 calls each.
+#[test]
+fn two_contexts_that_commit_often(rt: HostRuntime) -> Result<(), Fail> {
+    let alloc = rt.alloc();
+    let keys = "hk4g4<E>hk4g4<E>hk4g4<E>hk4g4<E>hk4g4<E>hk4g4<E>hk4<E>";
+    let script = format!(in alloc; "1:{keys}\nround\n2:{keys}\n")?;
+    let run = ran(alloc, FIVE_ROWS, &script)?;
+    let once = format!(in alloc; "{TYPED}\t0\t\t測試\t\t\n")?;
+    let last = "\t0\tㄘ\t\t\t\n\t0\tㄘㄜ\t\t\t\n策\t2\t\t\t\t\n\t0\t\t策\t\t\n";
+    let lines = format!(in alloc; "{once}{once}{once}{once}{once}{once}{last}")?;
+    let printed = format!(in alloc; "context 1\n{lines}context 2\n{lines}")?;
+    ends(&rt, &run, 0, &printed, &[40, 40]);
+    assert_eq!(rt; run.0.journal.len(), 40);
     Ok(())
 }
 

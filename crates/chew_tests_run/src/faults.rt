@@ -3,10 +3,11 @@
 //! is written in two: its header, and its lines. A write that failed is the last.
 
 use crate::runs::{
-    Plan, TWO_SYLLABLES, TWO_SYLLABLES_PRINTED, ends, failing, looks, nothing, ran_with,
+    Plan, TWO_SYLLABLES, TWO_SYLLABLES_PRINTED, calls, ends, failing, nothing, ran_with,
 };
 use chew_outside::{Fails, MemSink};
 use chew_samples::FIVE_ROWS;
+use chew_syllable::NoMemory;
 use chewing_cli::Done;
 use std::alloc::{AllocError, Global};
 use std::process::Abort;
@@ -32,6 +33,10 @@ const TWO_CONTEXTS_CUT: [(u64, &str); 4] = [
 /// What the two contexts print over the five rows.
 const TWO_CONTEXTS_PRINTED: &str =
     "context 1\n\t0\tㄕ\t\t\t\n是\t2\t\t\t\t\n是\t2\tㄘ\t\t\t\n是\t2\tㄘㄜ\t\t\t\n是策\t4\t\t\t\t\ncontext 2\n\t0\tㄘ\t\t\t\n\t0\tㄘㄜ\t\t\t\n策\t2\t\t\t\t\n策\t2\tㄕ\t\t\t\n測試\t4\t\t\t\t\n\t0\t\t測試\t\t\n";
+
+/// The calls that they make.
+const TWO_CONTEXTS_CALLS: &str =
+    "1 look 8708\n1 look 8708,10268\n2 look 10268\n2 look 10268,8708\n2 learn 10268,8708 測試 9318 9318\n";
 
 /// A run of the two syllables with this plan, and the sink that it wrote to.
 fn ran_by(alloc: Global, plan: Plan) -> Result<(Done, MemSink), AllocError> {
@@ -103,22 +108,12 @@ fn two_contexts(
     sink: Fails,
     status: u8,
     taken: &str,
-) -> Result<(), AllocError> {
+) -> Result<(), NoMemory> {
     let mut plan = nothing(alloc);
     plan.sink = sink;
     let run = ran_with(alloc, FIVE_ROWS, TWO_CONTEXTS, 40, plan)?;
     ends(rt, &run, status, taken, &[5, 6]);
-    looks(
-        rt,
-        run.0.journal.as_slice(),
-        &[
-            (1, &[8708]),
-            (1, &[8708, 10268]),
-            (2, &[10268]),
-            (2, &[10268, 8708]),
-        ],
-    );
-    Ok(())
+    calls(rt, alloc, run.0.journal.as_slice(), TWO_CONTEXTS_CALLS)
 }
 
 #[test]

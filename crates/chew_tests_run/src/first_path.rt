@@ -1,7 +1,8 @@
 //! One context, from the bytes of its inputs to the bytes of its output.
 
 use crate::runs::{
-    TWO_SYLLABLES, TWO_SYLLABLES_PRINTED, ends, failing, looks, nothing, ran, ran_with,
+    TWO_SYLLABLES, TWO_SYLLABLES_CALLS, TWO_SYLLABLES_PRINTED, calls, ends, failing, nothing, ran,
+    ran_with,
 };
 use chew_outside::{Fails, MemSink, MemSource};
 use chew_samples::FIVE_ROWS;
@@ -12,24 +13,25 @@ use std::test::Fail;
 fn two_syllables_and_enter(rt: HostRuntime) -> Result<(), Fail> {
     let run = ran(rt.alloc(), FIVE_ROWS, TWO_SYLLABLES)?;
     ends(&rt, &run, 0, TWO_SYLLABLES_PRINTED, &[6]);
-    looks(
+    calls(
         &rt,
+        rt.alloc(),
         run.0.journal.as_slice(),
-        &[(1, &[10268]), (1, &[10268, 8708])],
-    );
+        TWO_SYLLABLES_CALLS,
+    )?;
     Ok(())
 }
 
 #[test]
-fn a_space_with_nothing_held_is_a_bell(rt: HostRuntime) -> Result<(), Fail> {
+fn a_space_with_nothing_held_is_a_symbol(rt: HostRuntime) -> Result<(), Fail> {
     let run = ran(rt.alloc(), FIVE_ROWS, "1: \n")?;
-    ends(&rt, &run, 0, "context 1\n\t0\t\t\t\tbell\n", &[1]);
+    ends(&rt, &run, 0, "context 1\n \t1\t\t\t\t\n", &[1]);
     assert_eq!(rt; run.0.journal.len(), 0);
     Ok(())
 }
 
 #[test]
-fn the_eleventh_syllable_is_a_bell(rt: HostRuntime) -> Result<(), Fail> {
+fn the_eleventh_syllable_commits_the_first(rt: HostRuntime) -> Result<(), Fail> {
     let run = ran(
         rt.alloc(),
         FIVE_ROWS,
@@ -38,7 +40,7 @@ fn the_eleventh_syllable_is_a_bell(rt: HostRuntime) -> Result<(), Fail> {
     assert_eq!(rt; run.0.status, 0);
     let mut lines = run.1.bytes().split(|byte| *byte == b'\n');
     let line = lines.nth(33).unwrap_or(&[]);
-    assert_eq!(rt; line, "策策策策策策策策策策\t20\t\t\t\tbell".as_bytes());
+    assert_eq!(rt; line, "策策策策策策策策策策\t20\t\t策\t\t".as_bytes());
     Ok(())
 }
 

@@ -2,11 +2,17 @@
 #![tactic(auto)]
 
 #[cfg(test)]
+mod candidates;
+#[cfg(test)]
 mod contexts;
+#[cfg(test)]
+mod editing;
 #[cfg(test)]
 mod faults;
 #[cfg(test)]
 mod first_path;
+#[cfg(test)]
+mod learning;
 #[cfg(test)]
 mod limits;
 #[cfg(test)]

@@ -3,7 +3,10 @@
 ghost use Rattle.std.specs.Prelude.{◌≤◌};
 
 use chew_outside::{Fails, MemSink, MemSource};
-use chew_plain::{Call, Entry};
+use chew_plain::Entry;
+use chew_samples::FIVE_ROWS;
+use chew_script::append_entry;
+use chew_syllable::NoMemory;
 use chewing_cli::{Done, chewing};
 use std::alloc::{AllocError, Global};
 use std::process::Abort;
@@ -14,6 +17,14 @@ pub(crate) const TWO_SYLLABLES: &str = "1:hk4g4<E>\n";
 /// What the two syllables print over the five rows.
 pub(crate) const TWO_SYLLABLES_PRINTED: &str =
     "context 1\n\t0\tㄘ\t\t\t\n\t0\tㄘㄜ\t\t\t\n策\t2\t\t\t\t\n策\t2\tㄕ\t\t\t\n測試\t4\t\t\t\t\n\t0\t\t測試\t\t\n";
+
+/// What they print before Enter, behind the header.
+pub(crate) const TYPED: &str =
+    "\t0\tㄘ\t\t\t\n\t0\tㄘㄜ\t\t\t\n策\t2\t\t\t\t\n策\t2\tㄕ\t\t\t\n測試\t4\t\t\t\t\n";
+
+/// The calls that they make: Enter learns what it commits.
+pub(crate) const TWO_SYLLABLES_CALLS: &str =
+    "1 look 10268\n1 look 10268,8708\n1 learn 10268,8708 測試 9318 9318\n";
 
 /// The words of a run.
 const WORDS: [&str; 4] = ["run", "system", "script", "folder"];
@@ -88,24 +99,50 @@ pub(crate) fn ends(
     assert_eq!(rt; run.0.handled.as_slice(), handled);
 }
 
-/// The calls are look-ups by these contexts of syllables with these codes, in this order.
-pub(crate) fn looks(rt: &impl Abort, journal: &[Entry], wanted: &[(u32, &[u16])]) {
-    assert_eq!(rt; journal.len(), wanted.len());
-    for (entry, (who, codes)) in journal.iter().zip(wanted) {
-        assert_eq!(rt; entry.who, *who);
-        is_look(rt, &entry.call, codes);
+/// The calls have these lines in a trace, one behind another.
+pub(crate) fn calls(
+    rt: &impl Abort,
+    alloc: Global,
+    journal: &[Entry],
+    wanted: &str,
+) -> Result<(), NoMemory> {
+    let mut text = Vec::new(alloc);
+    for entry in journal {
+        append_entry(&mut text, entry)?;
     }
+    assert_eq!(rt; text.as_slice(), wanted.as_bytes());
+    Ok(())
 }
 
-/// The call is a look-up of syllables with these codes.
-fn is_look(rt: &impl Abort, call: &Call, codes: &[u16]) {
-    match call {
-        Call::Look(run) => {
-            assert_eq!(rt; run.list().len(), codes.len());
-            for (syllable, code) in run.list().iter().zip(codes) {
-                assert_eq!(rt; syllable.code(), *code);
-            }
-        }
-        _ => panic!(rt; "this is no look-up"),
-    }
+/// So many keys of context 1, typed over the five rows, print these lines and make these calls.
+pub(crate) fn types(
+    rt: &impl Abort,
+    alloc: Global,
+    keys: &str,
+    count: u32,
+    lines: &str,
+    made: &str,
+) -> Result<(), NoMemory> {
+    let script = format!(in alloc; "1:{keys}\n")?;
+    let run = ran(alloc, FIVE_ROWS, &script)?;
+    let printed = format!(in alloc; "context 1\n{lines}")?;
+    ends(rt, &run, 0, &printed, &[count]);
+    calls(rt, alloc, run.0.journal.as_slice(), made)
+}
+
+/// The same of keys behind those of the two syllables, and of what they add.
+pub(crate) fn types_then(
+    rt: &impl Abort,
+    alloc: Global,
+    keys: &str,
+    count: u32,
+    lines: &str,
+    made: &str,
+) -> Result<(), NoMemory>
+    requires { count ≤ 1000 }
+{
+    let keys = format!(in alloc; "hk4g4{keys}")?;
+    let lines = format!(in alloc; "{TYPED}{lines}")?;
+    let made = format!(in alloc; "1 look 10268\n1 look 10268,8708\n{made}")?;
+    types(rt, alloc, &keys, count + 5, &lines, &made)
 }

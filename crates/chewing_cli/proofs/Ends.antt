@@ -1,28 +1,30 @@
 -- How a run ends whose keys were handled.
-use Rattle.std.specs.Prelude.{◌≡◌, ℕ, Bool, List, map, Ok, Err}
+use Rattle.std.specs.Prelude.{◌≡◌, ℕ, Bool, true, List, map, Ok, Err}
+use Rattle.std.specs.List.{list_all}
 use Rattle.std.proofs.Common.{refl, ap, sym, subst, inr, ◌∙◌, ⊎_elim}
 use Rattle.chew_spec_dictionary.specs.History.{Entry}
+use Rattle.chew_spec_text.specs.KeyStroke.{is_key_stroke}
 use Rattle.chew_spec_program.specs.Opening.{Inputs, IsOpening}
 use Rattle.chew_spec_program.specs.Output.{output, texts_from}
 use Rattle.chew_spec_program.specs.Refusal.{NoMemory}
 use Rattle.chew_spec_program.specs.Run.{Ended, IsRefused, IsRun, IsTalk, Outside, are_handled, talk_status}
 use Rattle.chew_spec_program.specs.Writing.{Sunk, Writes}
-use Rattle.chew_spec_program.proofs.Journal.{journal-legal}
-use Rattle.chew_spec_program.proofs.Opened.{StandsOnRows, opened-command}
+use Rattle.chew_spec_program.proofs.Journal.{StandsOnRows, journal-legal}
+use Rattle.chew_spec_program.proofs.Opened.{opened-command}
 use Rattle.chew_spec_program.proofs.Outputs.{texts-contexts}
 use Rattle.chewing_cli.specs.Progress.{ContextEnd, Progress, RanAll}
 use Rattle.chewing_cli.specs.Runs.{Runs}
 
 pub talked : (inputs : Inputs) (sink : Sunk) (ended : Ended) (now : Progress) (ends : List ContextEnd) (failed : Bool)
-    → StandsOnRows inputs.basis → RanAll inputs.basis inputs.script.contexts now ends
+    → StandsOnRows inputs.basis → list_all (list_all is_key_stroke) inputs.script.contexts ≡ true → RanAll inputs.basis inputs.script.contexts now ends
     → Writes sink (texts_from 1 (map (λ end. end.text) ends)) failed
     → ended ≡ record {
       status = talk_status failed (are_handled inputs.script.contexts (map (λ end. end.handled) ends));
       journal = now.journal;
       handled = map (λ end. end.handled) ends;
     } → IsTalk inputs sink ended
-talked inputs sink ended now ends failed stands all writes is =
-    let legal = journal-legal inputs.basis now.journal inputs.script.contexts (map (λ end. end.handled) ends) all.lines stands.rows stands.limit all.all all.numbers in
+talked inputs sink ended now ends failed stands strokes all writes is =
+    let legal = journal-legal inputs.basis now.journal inputs.script.contexts (map (λ end. end.handled) ends) all.lines stands strokes all.all all.numbers in
     let text : texts_from 1 (map (λ end. end.text) ends) ≡ output all.lines = ap (texts_from 1) all.shown ∙ texts-contexts 1 all.lines in
     let talk : IsTalk inputs sink (record {
       status = talk_status failed (are_handled inputs.script.contexts (map (λ end. end.handled) ends));

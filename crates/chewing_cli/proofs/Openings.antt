@@ -8,6 +8,7 @@ use Rattle.chew_spec_dictionary.specs.Order.{in_order}
 use Rattle.chew_spec_text.specs.DictionaryText.{RowCause, dictionary_rows, system_limit}
 use Rattle.chew_spec_text.specs.Lines.{Fault}
 use Rattle.chew_spec_text.specs.Script.{Script, script_of, script_limit}
+use Rattle.chew_spec_editor.specs.Settings.{standard_settings}
 use Rattle.chew_spec_program.specs.Command.{is_run_command}
 use Rattle.chew_spec_program.specs.Opening.{Inputs, IsOpening, inputs_of, nothing_learnt, opening, or_refusal, script_value, system_value, value_or_refusal}
 use Rattle.chew_spec_program.specs.Reading.{IsReadWhere, IsUnread, Watched}
@@ -17,7 +18,7 @@ use Rattle.chewing_cli.specs.Progress.{basis_over}
 
 -- the inputs of these rows and what a script says, or the refusal of the script
 abbrev pub with_rows : List Row → Result Script Refusal → Result Inputs Refusal
-with_rows rows (Ok script) = Ok (record { basis = basis_over rows nothing_learnt; script = script })
+with_rows rows (Ok script) = Ok (record { basis = basis_over rows (nothing_learnt standard_settings); script = script })
 with_rows rows (Err refusal) = Err refusal
 
 -- rows in image order are given to the inputs
@@ -25,7 +26,7 @@ ordered_given : (o : Result (List Row) (Fault RowCause)) (rows : List Row) (scri
     → Ok rows ≡ or_refusal WrongSystem (in_image_order o) → with_rows rows script ≡ inputs_of (or_refusal WrongSystem o) script
 ordered_given (Err fault) rows script e = absurd cc
 ordered_given (Ok had) rows (Ok script) e =
-    let same : rows ≡ in_order image_cmp had = cc in ap (λ (l : List Row). Ok (record { basis = basis_over l nothing_learnt; script = script })) same
+    let same : rows ≡ in_order image_cmp had = cc in ap (λ (l : List Row). Ok (record { basis = basis_over l (nothing_learnt standard_settings); script = script })) same
 ordered_given (Ok had) rows (Err refusal) e = refl
 
 rows_given : (text : Option (List ℕ)) (rows : List Row) (script : Result Script Refusal)
@@ -123,7 +124,7 @@ pub opens_without_memory : (words : List (List ℕ)) (system script : Watched) �
 opens_without_memory words system script e = inr (record { command = e; refused = refl })
 
 -- the user's dictionary that was made for the run is the one that it begins with
-pub opens_with : (words : List (List ℕ)) (system script : Watched) (rows : List Row) (said : Script) (start : Point) → start ≡ nothing_learnt
+pub opens_with : (words : List (List ℕ)) (system script : Watched) (rows : List Row) (said : Script) (start : Point) → start ≡ nothing_learnt standard_settings
     → IsOpening words system script (with_rows rows (Ok said)) → IsOpening words system script (Ok (record { basis = basis_over rows start; script = said }))
 opens_with words system script rows said start is opening =
     subst (λ (p : Point). IsOpening words system script (Ok (record { basis = basis_over rows p; script = said }))) (sym is) opening

@@ -21,11 +21,11 @@ use Rattle.chewing_cli.specs.Progress.{Handled, IsFresh, Progress, Stops, Talks,
 use Rattle.chewing_cli.proofs.Calls.{asked_joined, asked_none, calls-entries, front-nil, heard_joined, length-heard, own-entries}
 
 -- the talk over one key that was handled
-talk_one : (system : List Row) (settings : Settings) (editor : Editor) (key : KeyStroke) (replies : List Reply) (turn : Turn)
-    → turn_of system settings editor key replies ≡ Some turn → length replies ≤ length turn.calls
-    → talk_from system settings editor (key ∷ []) replies ≡ record { calls = turn.calls; lines = turn.line ∷ []; editor = turn.editor; replies = [] }
+talk_one : (system : List Row) (editor : Editor) (key : KeyStroke) (replies : List Reply) (turn : Turn)
+    → turn_of system editor key replies ≡ Some turn → length replies ≤ length turn.calls
+    → talk_from system editor (key ∷ []) replies ≡ record { calls = turn.calls; lines = turn.line ∷ []; editor = turn.editor; replies = [] }
 unfolding talk_from
-talk_one system settings editor key replies turn e all =
+talk_one system editor key replies turn e all =
     ap (λ (o : Option Turn). option_map_or (λ (t : Turn). after_key t.calls t.line (silence t.editor (drop (length t.calls) replies))) o (silence editor replies)) e
     ∙ ap₂ (λ (l : List Call) (r : List Reply). record { calls = l; lines = turn.line ∷ []; editor = turn.editor; replies = r })
     (append-nil turn.calls) (drop_all (length turn.calls) replies all)
@@ -43,24 +43,24 @@ talks_none system settings who had = record {
 
 -- further replies change no talk whose keys were all handled
 module _ (system : List Row) (settings : Settings) (keys : List KeyStroke) (heard_by more : List Reply) (calls : List Call) (lines : List Line) (had : Editor)
-    (talked : talk_from system settings (empty_editor settings) keys heard_by ≡ record { calls = calls; lines = lines; editor = had; replies = [] })
+    (talked : talk_from system (empty_editor settings) keys heard_by ≡ record { calls = calls; lines = lines; editor = had; replies = [] })
     (each : length lines ≡ length keys) where
-  all_handled : handled (talk_from system settings (empty_editor settings) keys heard_by) ≡ length keys
+  all_handled : handled (talk_from system (empty_editor settings) keys heard_by) ≡ length keys
   all_handled = ap handled talked ∙ each
 
-  longer : talk_from system settings (empty_editor settings) keys (heard_by ++ more) ≡ record { calls = calls; lines = lines; editor = had; replies = more }
+  longer : talk_from system (empty_editor settings) keys (heard_by ++ more) ≡ record { calls = calls; lines = lines; editor = had; replies = more }
   longer =
-      talks.more_replies system settings (empty_editor settings) keys heard_by more all_handled
+      talks.more_replies system (empty_editor settings) keys heard_by more all_handled
       ∙ ap (λ (t : Talk). record t { replies = t.replies ++ more }) talked
 
   -- one key more
-  talk_more : (key : KeyStroke) (turn : Turn) → turn_of system settings had key more ≡ Some turn → length more ≤ length turn.calls
-      → talk_from system settings (empty_editor settings) (keys ++ (key ∷ [])) (heard_by ++ more)
+  talk_more : (key : KeyStroke) (turn : Turn) → turn_of system had key more ≡ Some turn → length more ≤ length turn.calls
+      → talk_from system (empty_editor settings) (keys ++ (key ∷ [])) (heard_by ++ more)
       ≡ record { calls = calls ++ turn.calls; lines = lines ++ (turn.line ∷ []); editor = turn.editor; replies = [] }
   talk_more key turn e all =
-      talks.joined system settings (empty_editor settings) keys (key ∷ []) (heard_by ++ more) (ap handled longer ∙ each)
-      ∙ ap (λ (t : Talk). followed t (talk_from system settings t.editor (key ∷ []) t.replies)) longer
-      ∙ ap (followed (record { calls = calls; lines = lines; editor = had; replies = more })) (talk_one system settings had key more turn e all)
+      talks.joined system (empty_editor settings) keys (key ∷ []) (heard_by ++ more) (ap handled longer ∙ each)
+      ∙ ap (λ (t : Talk). followed t (talk_from system t.editor (key ∷ []) t.replies)) longer
+      ∙ ap (followed (record { calls = calls; lines = lines; editor = had; replies = more })) (talk_one system had key more turn e all)
 
 -- the lines of more keys are printed behind those before
 lines_more : (text : List ℕ) (lines : List Line) (line : Line) → (text ++ flat_map line_text lines) ++ line_text line ≡ text ++ flat_map line_text (lines ++ (line ∷ []))
@@ -79,20 +79,20 @@ printed_more who calls more lines line before now next is then =
 
 -- one key more was handled
 pub talks_more : (system : List Row) (settings : Settings) (who : ℕ) (keys : List KeyStroke) (key : KeyStroke) (before now next : Progress) (had editor : Editor)
-    → Talks system settings who keys before now had → Turns system settings who key had now next editor
+    → Talks system settings who keys before now had → Turns system who key had now next editor
     → Talks system settings who (keys ++ (key ∷ [])) before next editor
 talks_more system settings who keys key before now next had editor talks turns =
     let point : now.point ≡ after before.point (entries_by who talks.calls) = ap (λ (p : Progress). p.point) talks.made in
     let first : List Reply = heard before.point who talks.calls in
     let second : List Reply = heard (after before.point (entries_by who talks.calls)) who turns.calls in
     let turn : Turn = record { calls = turns.calls; line = turns.line; editor = editor } in
-    let turned : turn_of system settings had key second ≡ Some turn = subst (λ (p : Point). turn_of system settings had key (heard p who turns.calls) ≡ Some turn) point turns.turned in
+    let turned : turn_of system had key second ≡ Some turn = subst (λ (p : Point). turn_of system had key (heard p who turns.calls) ≡ Some turn) point turns.turned in
     let both : heard before.point who (talks.calls ++ turns.calls) ≡ first ++ second = heard_joined before.point who talks.calls turns.calls in
     let few : length second ≤ length turns.calls = omega (arith, length-heard (after before.point (entries_by who talks.calls)) who turns.calls) in
     record {
       calls = talks.calls ++ turns.calls;
       lines = talks.lines ++ (turns.line ∷ []);
-      talked = ap (talk_from system settings (empty_editor settings) (keys ++ (key ∷ []))) both
+      talked = ap (talk_from system (empty_editor settings) (keys ++ (key ∷ []))) both
           ∙ talk_more system settings keys first second talks.calls talks.lines had talks.talked talks.each key turn turned few;
       each = length-append talks.lines (turns.line ∷ []) ∙ ap (λ (n : ℕ). n + 1) talks.each ∙ sym (length-append keys (key ∷ []));
       made = printed_more who talks.calls turns.calls talks.lines turns.line before now next talks.made turns.made;
@@ -132,7 +132,7 @@ front_behind before front whole is =
 -- what a context handled, where these calls of the next key were made
 handles_of : (basis : Basis) (who : ℕ) (keys : List KeyStroke) (i : ℕ) (before : Progress) (calls unfinished : List Call) (lines : List Line) (had : Editor)
     → IsFresh basis.start who before
-    → talk_from basis.system basis.settings (empty_editor basis.settings) (take i keys) (heard before.point who calls)
+    → talk_from basis.system (empty_editor basis.settings) (take i keys) (heard before.point who calls)
     ≡ record { calls = calls; lines = lines; editor = had; replies = [] }
     → length lines ≡ length (take i keys) → i ≤ length keys → IsFront unfinished (next_calls basis had (drop i keys))
     → Handles basis (before.journal ++ entries_by who (calls ++ unfinished)) who keys i lines
@@ -142,8 +142,8 @@ handles_of basis who keys i before calls unfinished lines had fresh talked each 
     let all : replies basis.start (before.journal ++ entries_by who (calls ++ unfinished)) who ≡ first ++ more =
     heard_fresh basis.start who before (calls ++ unfinished) fresh ∙ heard_joined before.point who calls unfinished in
     let whole : Talk = record { calls = calls; lines = lines; editor = had; replies = more } in
-    let talk : talk_from basis.system basis.settings (empty_editor basis.settings) (take i keys) (replies basis.start (before.journal ++ entries_by who (calls ++ unfinished)) who) ≡ whole =
-    ap (talk_from basis.system basis.settings (empty_editor basis.settings) (take i keys)) all
+    let talk : talk_from basis.system (empty_editor basis.settings) (take i keys) (replies basis.start (before.journal ++ entries_by who (calls ++ unfinished)) who) ≡ whole =
+    ap (talk_from basis.system (empty_editor basis.settings) (take i keys)) all
     ∙ longer basis.system basis.settings (take i keys) first more calls lines had talked each in
     let mine : calls_of (before.journal ++ entries_by who (calls ++ unfinished)) who ≡ calls ++ unfinished = calls_fresh basis.start who before (calls ++ unfinished) fresh in
     record {
@@ -176,7 +176,7 @@ handled_all basis who keys i before now had fresh within talks =
 -- a context that was stopped at a key
 pub handled_stopped : (basis : Basis) (who : ℕ) (keys : List KeyStroke) (i : ℕ) (key : KeyStroke) (before now next : Progress) (had : Editor) → IsFresh basis.start who before
     → i < length keys → key ≡ get_or keys i key → Talks basis.system basis.settings who (take i keys) before now had
-    → Stops basis.system basis.settings who key had now next → Handled basis who keys before next i
+    → Stops basis.system who key had now next → Handled basis who keys before next i
 handled_stopped basis who keys i key before now next had fresh within is talks stops =
     let made : next ≡ printed (flat_map line_text talks.lines) (asked who (talks.calls ++ stops.unfinished) before) =
     stops.made ∙ ap (asked who stops.unfinished) talks.made

@@ -7,8 +7,7 @@ use Rattle.chew_spec_dictionary.specs.Growth.{IsFront}
 use Rattle.chew_spec_text.specs.KeyStroke.{KeyStroke}
 use Rattle.chew_spec_text.specs.Line.{Line, line_text}
 use Rattle.chew_spec_editor.specs.Editor.{Editor, empty_editor}
-use Rattle.chew_spec_editor.specs.Keys.{calls_asked}
-use Rattle.chew_spec_editor.specs.Press.{press}
+use Rattle.chew_spec_editor.specs.Keys.{calls_asked, press}
 use Rattle.chew_spec_editor.specs.Settings.{Settings, standard_settings}
 use Rattle.chew_spec_editor.specs.Talk.{talk_from, turn_of}
 use Rattle.chew_spec_program.specs.Context.{Basis, HandleAll, Handles, IsOfContext}
@@ -54,16 +53,16 @@ pub record Asks (who : ℕ) (calls : List Call) (before now : Progress) : Type 0
   pub made : now ≡ asked who (take count calls) before
 
 -- the key was handled: it made its calls, its line was printed, and this is the editor then
-pub record Turns (system : List Row) (settings : Settings) (who : ℕ) (key : KeyStroke) (had : Editor) (before now : Progress) (editor : Editor) : Type 0 where
+pub record Turns (system : List Row) (who : ℕ) (key : KeyStroke) (had : Editor) (before now : Progress) (editor : Editor) : Type 0 where
   pub calls : List Call
   pub line : Line
-  pub turned : turn_of system settings had key (heard before.point who calls) ≡ Some (record { calls = calls; line = line; editor = editor })
+  pub turned : turn_of system had key (heard before.point who calls) ≡ Some (record { calls = calls; line = line; editor = editor })
   pub made : now ≡ printed (line_text line) (asked who calls before)
 
 -- the key was not handled: it made the first of its calls, and nothing was printed
-pub record Stops (system : List Row) (settings : Settings) (who : ℕ) (key : KeyStroke) (had : Editor) (before now : Progress) : Type 0 where
+pub record Stops (system : List Row) (who : ℕ) (key : KeyStroke) (had : Editor) (before now : Progress) : Type 0 where
   pub unfinished : List Call
-  pub front : IsFront unfinished (calls_asked (press system settings had key))
+  pub front : IsFront unfinished (calls_asked (press system had key))
   pub made : now ≡ asked who unfinished before
 
 -- these keys of a context were all handled: they made the calls of their talk, its lines were printed, and it leaves
@@ -71,7 +70,7 @@ pub record Stops (system : List Row) (settings : Settings) (who : ℕ) (key : Ke
 pub record Talks (system : List Row) (settings : Settings) (who : ℕ) (keys : List KeyStroke) (before now : Progress) (editor : Editor) : Type 0 where
   pub calls : List Call
   pub lines : List Line
-  pub talked : talk_from system settings (empty_editor settings) keys (heard before.point who calls)
+  pub talked : talk_from system (empty_editor settings) keys (heard before.point who calls)
       ≡ record { calls = calls; lines = lines; editor = editor; replies = [] }
   pub each : length lines ≡ length keys
   pub made : now ≡ printed (flat_map line_text lines) (asked who calls before)

@@ -1,5 +1,8 @@
-ghost use Rattle.std.specs.Prelude.{◌≡◌, ◌≤◌, [], length};
+ghost use Rattle.std.specs.Prelude.{◌≡◌, ◌≤◌, [], IsTrue, length};
+ghost use Rattle.std.specs.List.{list_all};
+ghost use Rattle.chew_spec_syllable.specs.Row.{is_row};
 ghost use Rattle.chew_spec_dictionary.specs.History.{Point};
+ghost use Rattle.chew_spec_text.specs.KeyStroke.{is_key_stroke};
 ghost use Rattle.chew_script.specs.Keys.{keys_of};
 ghost use Rattle.chewing_cli.specs.Progress.{Handled, IsFresh, Ran, basis_over};
 
@@ -38,6 +41,8 @@ pub(crate) fn run_context(
     keys: &[KeyStroke],
 ) -> ContextEnd
     requires few { length keys.now ≤ 65_536 }
+    requires keys { IsTrue (list_all is_key_stroke (keys_of keys.now)) }
+    requires pairs { IsTrue (list_all is_row work.old.point.dictionary.pairs) }
     requires silent { work.old.text ≡ [] }
     ensures ran { (start : Point) → IsFresh start who work.old → Ran (basis_over system.now start) who (keys_of keys.now) work.old work.new result }
 {
@@ -51,6 +56,8 @@ pub(crate) fn run_context(
 /// Handles keys, until memory is refused, and answers how many it handled.
 fn handle_keys(alloc: Global, system: &RowMap, work: &mut Work, who: u32, keys: &[KeyStroke]) -> u32
     requires few { length keys.now ≤ 65_536 }
+    requires keys { IsTrue (list_all is_key_stroke (keys_of keys.now)) }
+    requires pairs { IsTrue (list_all is_row work.old.point.dictionary.pairs) }
     ensures handled { (start : Point) → IsFresh start who work.old → Handled (basis_over system.now start) who (keys_of keys.now) work.old work.new result }
 {
     let mut editor = Editor::new(alloc, &Settings::standard());

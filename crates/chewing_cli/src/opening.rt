@@ -9,14 +9,12 @@ ghost use Rattle.chewing_cli.specs.Refusals.{outcome_of};
 
 use crate::command::is_run;
 use crate::refusal::Refusal;
+use chew_editor::Settings;
 use chew_outside::{Source, read_up_to};
 use chew_plain::{Plain, RowMap};
 use chew_rows::{SYSTEM_LIMIT, read_rows};
 use chew_script::{SCRIPT_LIMIT, Script, read_script};
 use std::alloc::Global;
-
-/// The most pairs of a user's dictionary.
-const CAP: u32 = 65_536;
 
 /// What a run works on.
 #[derive(Drop)]
@@ -52,7 +50,8 @@ pub(crate) fn open<I: Source, Y: Source>(
         Ok(script) => script,
         Err(refusal) => return Err(refusal),
     };
-    match Plain::of(Vec::new(alloc), 0, CAP) {
+    let settings = Settings::standard();
+    match Plain::of(Vec::new(alloc), 0, settings.cap) {
         Ok(plain) => Ok(Opened {
             system,
             script,

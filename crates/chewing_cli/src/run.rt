@@ -1,5 +1,7 @@
-ghost use Rattle.std.specs.Prelude.{◌≡◌, ◌≤◌, All, IfOk, [], length, map, vec_capacity};
-ghost use Rattle.chew_spec_editor.specs.Sound.{AreRows};
+ghost use Rattle.std.specs.Prelude.{◌≡◌, ◌≤◌, All, IfOk, IsTrue, [], length, map, vec_capacity};
+ghost use Rattle.std.specs.List.{list_all};
+ghost use Rattle.chew_spec_syllable.specs.Row.{is_row};
+ghost use Rattle.chew_spec_text.specs.KeyStroke.{is_key_stroke};
 ghost use Rattle.chew_spec_program.specs.Run.{are_handled, talk_status};
 ghost use Rattle.chew_spec_program.specs.Writing.{sunk};
 ghost use Rattle.chew_script.specs.Keys.{lists_of};
@@ -25,7 +27,9 @@ use std::alloc::Global;
 pub(crate) fn run<O: Sink>(alloc: Global, opened: Opened, sink: &mut O) -> Done
     requires few_contexts { length opened.script.contexts ≤ 16 }
     requires few_keys { All (λ keys. length keys ≤ 65_536) opened.script.contexts }
-    requires rows { AreRows opened.system }
+    requires keys { IsTrue (list_all (list_all is_key_stroke) opened.script.contexts) }
+    requires rows { IsTrue (list_all is_row opened.system) }
+    requires pairs { IsTrue (list_all is_row opened.plain.dictionary.pairs) }
     ensures { Runs (inputs_of opened) (sunk (O.taken sink.old) (O.taken sink.new) (O.faults sink.old) (O.faults sink.new)) (ended_of result) }
 {
     let Opened {
@@ -68,6 +72,9 @@ fn run_contexts(
 )
     requires few_contexts { length contexts.now ≤ 16 }
     requires few_keys { All (λ keys. length keys ≤ 65_536) (lists_of contexts.now) }
+    requires keys { IsTrue (list_all (list_all is_key_stroke) (lists_of contexts.now)) }
+    requires rows { IsTrue (list_all is_row system.now) }
+    requires pairs { IsTrue (list_all is_row work.old.point.dictionary.pairs) }
     requires none { ends.old.items ≡ [] }
     requires room { length contexts.now ≤ vec_capacity ends.old }
     requires begins { work.old ≡ record { journal = []; point = work.old.point; text = [] } }

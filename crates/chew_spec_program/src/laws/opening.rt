@@ -1,6 +1,6 @@
 //! Known openings of a run.
 
-ghost use Rattle.std.specs.Prelude.{◌≡◌, [], ◌∷◌, Some, None, Ok, Err, codes, flat_map, map};
+ghost use Rattle.std.specs.Prelude.{◌≡◌, [], ◌∷◌, Some, None, Ok, Err, codes, false, flat_map, map, true};
 ghost use Rattle.chew_spec_layout.specs.Layout.{Standard};
 ghost use Rattle.chew_spec_dictionary.specs.FiveRows.{ce4, row_at_start, shi4};
 ghost use Rattle.chew_spec_dictionary.specs.History.{start_of};
@@ -36,13 +36,13 @@ pub fn known_inputs()
             ∷ (row_at_start (ce4 ∷ []) (bytes_of "測") 100
             ∷ (row_at_start (ce4 ∷ []) (bytes_of "策") 200
             ∷ (row_at_start (ce4 ∷ (shi4 ∷ [])) (bytes_of "測試") 9318 ∷ []))));
-        settings = record { layout = Standard; buffer = 10 };
+        settings = record { layout = Standard; buffer = 10; page = 10; selection = codes "1234567890"; escape_clears = false; learn = true; cap = 65_536 };
         start = start_of (record { pairs = []; life = 0; cap = 65_536 });
       };
       script = record { contexts = map Char (codes "4") ∷ (map Char (codes "hk") ∷ []); rounds = 1 };
     }) }
     ensures empty { opening run_words (Some []) (Some []) ≡ Ok (record {
-      basis = record { system = []; settings = record { layout = Standard; buffer = 10 }; start = start_of (record { pairs = []; life = 0; cap = 65_536 }) };
+      basis = record { system = []; settings = record { layout = Standard; buffer = 10; page = 10; selection = codes "1234567890"; escape_clears = false; learn = true; cap = 65_536 }; start = start_of (record { pairs = []; life = 0; cap = 65_536 }) };
       script = record { contexts = []; rounds = 0 };
     }) }
 {}

@@ -1,5 +1,6 @@
 -- The words, the system and the script, in this order.
-use Rattle.std.proofs.Common.{◌≡◌, ◌∙◌, List, Ok, Err, ap, map, refl, sym, true}
+use Rattle.std.proofs.Common.{◌≡◌, ◌∙◌, ℕ, List, Ok, Err, ap, ap₂, map, refl, sym, true}
+use Rattle.chew_spec_editor.specs.Settings.{Settings}
 use Rattle.chew_spec_dictionary.specs.History.{start_of}
 use Rattle.chew_spec_dictionary.specs.Order.{in_order}
 use Rattle.chew_spec_syllable.specs.Row.{Row, image_cmp}
@@ -27,5 +28,6 @@ pub returns-in-Ok-of-clause-opens : goal.returns-in-Ok-of-clause-opens
 returns-in-Ok-of-clause-opens g c =
     let formed : is_run_command (map (λ word. word.now) c.args.words.now) ≡ true = sym c.is_run.ensures ∙ c.if-not-is_run.false in
     opens_with (map (λ word. word.now) c.args.words.now) _ _ c.in-Ok.rows c.in-Ok-open_script.script c.in-Ok-of.plain
-    (c.in-Ok-of.ensures.value ∙ ap (λ (rows : List Row). start_of (record { pairs = in_order image_cmp rows; life = 0; cap = 65_536 })) c.new.ensures.items)
+    (c.in-Ok-of.ensures.value ∙ ap₂ (λ (rows : List Row) (cap : ℕ). start_of (record { pairs = in_order image_cmp rows; life = 0; cap = cap }))
+    c.new.ensures.items (ap (λ (s : Settings). s.cap) (c.settings.view_is ∙ c.standard-settings.ensures)))
     (opens_script (map (λ word. word.now) c.args.words.now) _ _ c.in-Ok.rows (Ok c.in-Ok-open_script.script) formed c.in-Ok.ensures c.in-Ok-open_script.ensures.reads)

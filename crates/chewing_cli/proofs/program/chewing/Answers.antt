@@ -14,6 +14,12 @@ use Rattle.chewing_cli.proofs.program.chewing.Goals as goal
 pub run-requires-clause-rows : goal.run-requires-clause-rows
 run-requires-clause-rows g c = (opened-stands (map (λ word. word.now) c.args.words.now) _ _ (inputs_of c.in-Ok.opened) c.in-Ok.ensures.opens).rows
 
+pub run-requires-clause-keys : goal.run-requires-clause-keys
+run-requires-clause-keys g c = (opened-stands (map (λ word. word.now) c.args.words.now) _ _ (inputs_of c.in-Ok.opened) c.in-Ok.ensures.opens).keys
+
+pub run-requires-clause-pairs : goal.run-requires-clause-pairs
+run-requires-clause-pairs g c = (opened-stands (map (λ word. word.now) c.args.words.now) _ _ (inputs_of c.in-Ok.opened) c.in-Ok.ensures.opens).pairs
+
 pub returns-in-Ok : goal.returns-in-Ok
 returns-in-Ok g c =
     let words : List (List ℕ) = map (λ word. word.now) c.args.words.now in

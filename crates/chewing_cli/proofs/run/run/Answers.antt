@@ -1,5 +1,5 @@
 -- How the run ends.
-use Rattle.std.proofs.Common.{◌≡◌, ◌∙◌, Bool, List, ap, ap₂, arith, inr, is_err, map, subst}
+use Rattle.std.proofs.Common.{◌≡◌, ◌∙◌, Bool, List, ap, ap₂, inr, refl, is_err, map, subst}
 use Rattle.chew_spec_text.specs.KeyStroke.{KeyStroke}
 use Rattle.chew_spec_program.specs.Output.{texts_from}
 use Rattle.chew_spec_program.specs.Run.{are_handled, talk_status}
@@ -27,5 +27,5 @@ returns g c =
     let status : c.status_of.result ≡ talk_status failed (are_handled contexts (map (λ end. end.handled) ends)) =
     c.status_of.ensures ∙ ap₂ talk_status c.is_err-failed.ensures.value all in
     let counts : c.counts_of.result.items ≡ map (λ end. end.handled) ends = c.counts_of.ensures ∙ ap (map (λ end. end.handled)) c.as_slice-3.ensures.value in
-    inr (talked (inputs_of c.args.opened) sink _ c.run_contexts.new.work ends failed (record { rows = c.requires.rows; limit = omega arith }) ran written
+    inr (talked (inputs_of c.args.opened) sink _ c.run_contexts.new.work ends failed (record { rows = c.requires.rows; settings = refl; pairs = c.requires.pairs }) c.requires.keys ran written
     (same_end _ _ _ _ _ _ status c.into_journal.ensures counts))

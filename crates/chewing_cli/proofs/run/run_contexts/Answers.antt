@@ -1,9 +1,13 @@
 -- One context more ran.
-use Rattle.std.proofs.Common.{◌+◌, ◌≤◌, ◌∙◌, ℕ, [], length, ap, refl, subst, sym, arith}
-use Rattle.std.proofs.lemmas.List.{length-append, length-map}
-use Rattle.chew_script.specs.Keys.{keys_of}
+use Rattle.std.proofs.Common.{◌+◌, ◌≤◌, ◌<◌, ◌∙◌, ℕ, [], length, ap, refl, subst, sym, arith}
+use Rattle.std.specs.List.{list_all}
+use Rattle.std.proofs.lemmas.List.{get_or-map, length-append, length-map}
+use Rattle.chew_spec_dictionary.proofs.Found.{each_of_all}
+use Rattle.chew_spec_text.specs.KeyStroke.{is_key_stroke}
+use Rattle.chew_script.specs.Keys.{keys_of, lists_of}
 use Rattle.chewing_cli.specs.Progress.{Ran, RanAll, basis_over}
 use Rattle.chew_spec_program.specs.Context.{Basis}
+use Rattle.chewing_cli.proofs.Answered.{rows-ran-first}
 use Rattle.chewing_cli.proofs.Contexts.{few_of, ran_all_none, ran_ends, ran_next}
 use Rattle.chewing_cli.proofs.run.run_contexts.Goals as goal
 
@@ -23,6 +27,21 @@ run_context-requires-clause-few c =
     subst (λ (n : ℕ). n ≤ 65_536) (sym (ap length c.as_slice.ensures.value))
     (few_of (λ keys. keys_of keys.items) (λ keys. length keys.items) (λ keys. rw length-map refl) c.args.contexts.now c.loop-keys.keys-index c.keys-item.result (omega arith)
     c.keys-item.is c.requires.few_keys)
+
+pub run_context-requires-clause-keys : goal.run_context-requires-clause-keys
+run_context-requires-clause-keys c =
+    let lists = lists_of c.args.contexts.now in
+    let i : ℕ = c.loop-keys.keys-index in
+    let mine = keys_of c.keys-item.result.items in
+    let inside : i < length c.args.contexts.now = omega arith in
+    ap (λ keys. list_all is_key_stroke (keys_of keys)) c.as_slice.ensures.value
+    ∙ ap (list_all is_key_stroke) (ap (λ keys. keys_of keys.items) c.keys-item.is ∙ sym (get_or-map (λ keys. keys_of keys.items) c.args.contexts.now i c.keys-item.result mine inside))
+    ∙ each_of_all (list_all is_key_stroke) lists i mine c.requires.keys (rw length-map (omega arith))
+
+pub run_context-requires-clause-pairs : goal.run_context-requires-clause-pairs
+run_context-requires-clause-pairs c =
+    rows-ran-first (basis_over c.args.system.now c.args.work.now.point) c.loop-keys.keys-index (lists_of c.args.contexts.now) c.loop-keys.work c.loop-keys.ends.items
+    (record { rows = c.requires.rows; settings = refl; pairs = c.requires.pairs }) c.requires.keys c.loop-keys.invariant.ran
 
 pub run_context-requires-clause-silent : goal.run_context-requires-clause-silent
 run_context-requires-clause-silent c = c.loop-keys.invariant.ran.silent

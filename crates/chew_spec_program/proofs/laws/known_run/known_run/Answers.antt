@@ -1,35 +1,26 @@
 -- By computing the inputs, the talk and the output.
-use Rattle.std.specs.Fmt.{digits}
 use Rattle.std.specs.Char.{encode_utf8}
-use Rattle.std.specs.Str.{chars, is_utf8}
-use Rattle.unicode_width.proofs.Computing.{unicode_width}
+use Rattle.std.specs.Str.{is_utf8}
 use Rattle.chew_spec_syllable.specs.Phrase.{is_phrase}
-use Rattle.chew_spec_syllable.specs.SyllableText.{syllable_reading, text_of}
-use Rattle.chew_spec_layout.specs.Table.{fed}
-use Rattle.chew_spec_dictionary.specs.FiveRows.{ce4, five_rows, shi4}
-use Rattle.chew_spec_dictionary.specs.Look.{hits_of}
-use Rattle.chew_spec_phrasing.specs.Best.{best_of}
-use Rattle.chew_spec_phrasing.specs.Combined.{combined_hits}
-use Rattle.chew_spec_phrasing.specs.Usable.{piece_at}
+use Rattle.chew_spec_syllable.specs.SyllableText.{syllable_reading}
+use Rattle.chew_spec_dictionary.specs.FiveRows.{ce4, shi4}
 use Rattle.chew_spec_text.specs.DictionaryText.{dictionary_rows}
-use Rattle.chew_spec_text.specs.KeyStroke.{keys_in}
-use Rattle.chew_spec_text.specs.Line.{line_text}
 use Rattle.chew_spec_text.specs.Script.{script_of}
-use Rattle.chew_spec_editor.specs.Finish.{finish}
-use Rattle.chew_spec_editor.specs.Press.{press}
+use Rattle.unicode_width.proofs.Computing.{unicode_width}
 use Rattle.chew_spec_editor.specs.Talk.{talk_from}
+use Rattle.chew_spec_editor.proofs.Computing.{typing}
 use Rattle.chew_spec_program.specs.Opening.{opening}
-use Rattle.std.proofs.Common.{[], ◌∷◌, ◌++◌, Some, Ok, false, inl, length, lit≤, refl, true≢false}
+use Rattle.std.proofs.Common.{[], ◌∷◌, ◌++◌, Some, Ok, drop, false, inl, length, lit≤, refl, true≢false}
 use Rattle.std.proofs.lemmas.List.Elements.{All-cons, All-nil}
 use Rattle.chew_spec_text.specs.Line.{Quiet}
 use Rattle.chew_spec_text.specs.Sample.{bytes_of}
 use Rattle.chew_spec_program.specs.Context.{IsOfContext}
-use Rattle.chew_spec_program.specs.Sample.{first_lines, look_by}
-use Rattle.chew_spec_program.specs.SampleRun.{five_inputs, five_output, five_text, keys_text}
+use Rattle.chew_spec_program.specs.Sample.{first_lines, learn_by, look_by}
+use Rattle.chew_spec_program.specs.SampleRun.{five_inputs, five_journal, five_output, five_text, keys_text}
 use Rattle.chew_spec_program.proofs.laws.known_run.known_run.Goals as goal
 
 pub returns : goal.returns
-unfolding opening dictionary_rows is_phrase is_utf8 chars syllable_reading script_of keys_in five_rows talk_from press finish fed text_of combined_hits best_of piece_at unicode_width hits_of digits encode_utf8 line_text
+unfolding opening dictionary_rows is_phrase is_utf8 syllable_reading script_of talk_from typing unicode_width encode_utf8
 returns c = record {
   opened = Ok five_inputs;
   opening = inl (record {
@@ -48,8 +39,9 @@ returns c = record {
   ends = record {
     lines = (first_lines ++ record { preedit = []; column = 0; held = []; commit = bytes_of "測試"; window = []; note = Quiet } ∷ []) ∷ [];
     contexts = (record { each = refl; talked = refl; made = record { rest = []; joined = refl }; next = record { rest = []; joined = refl } }, tt);
-    numbers = All-cons (IsOfContext 1) (look_by 1 (ce4 ∷ [])) (look_by 1 (ce4 ∷ (shi4 ∷ [])) ∷ []) (record { from_one = lit≤ tt; within = lit≤ tt })
-        (All-cons (IsOfContext 1) (look_by 1 (ce4 ∷ (shi4 ∷ []))) [] (record { from_one = lit≤ tt; within = lit≤ tt }) (All-nil (IsOfContext 1)));
+    numbers = All-cons (IsOfContext 1) (look_by 1 (ce4 ∷ [])) (drop 1 five_journal) (record { from_one = lit≤ tt; within = lit≤ tt })
+        (All-cons (IsOfContext 1) (look_by 1 (ce4 ∷ (shi4 ∷ []))) (drop 2 five_journal) (record { from_one = lit≤ tt; within = lit≤ tt })
+        (All-cons (IsOfContext 1) (learn_by 1 (ce4 ∷ (shi4 ∷ [])) (bytes_of "測試") 9318 9318) [] (record { from_one = lit≤ tt; within = lit≤ tt }) (All-nil (IsOfContext 1))));
     legal = refl;
     failed = false;
     writes = record {

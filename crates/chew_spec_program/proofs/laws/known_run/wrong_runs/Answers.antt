@@ -1,39 +1,30 @@
 -- By computing the inputs, the talk and the output.
-use Rattle.std.specs.Fmt.{digits}
 use Rattle.std.specs.Char.{encode_utf8}
-use Rattle.std.specs.Str.{chars, is_utf8}
-use Rattle.unicode_width.proofs.Computing.{unicode_width}
+use Rattle.std.specs.Str.{is_utf8}
 use Rattle.chew_spec_syllable.specs.Phrase.{is_phrase}
-use Rattle.chew_spec_syllable.specs.SyllableText.{syllable_reading, text_of}
-use Rattle.chew_spec_layout.specs.Table.{fed}
-use Rattle.chew_spec_dictionary.specs.Look.{hits_of}
-use Rattle.chew_spec_phrasing.specs.Best.{best_of}
-use Rattle.chew_spec_phrasing.specs.Combined.{combined_hits}
-use Rattle.chew_spec_phrasing.specs.Usable.{piece_at}
+use Rattle.chew_spec_syllable.specs.SyllableText.{syllable_reading}
 use Rattle.chew_spec_text.specs.DictionaryText.{dictionary_rows}
-use Rattle.chew_spec_text.specs.KeyStroke.{keys_in}
-use Rattle.chew_spec_text.specs.Line.{line_text}
 use Rattle.chew_spec_text.specs.Script.{script_of}
-use Rattle.chew_spec_editor.specs.Finish.{finish}
-use Rattle.chew_spec_editor.specs.Press.{press}
+use Rattle.unicode_width.proofs.Computing.{unicode_width}
 use Rattle.chew_spec_editor.specs.Talk.{talk_from}
+use Rattle.chew_spec_editor.proofs.Computing.{typing}
 use Rattle.chew_spec_program.specs.Opening.{opening}
 use Rattle.std.specs.Prelude.{◌≡◌, ◌<◌, ◌++◌, ◌∷◌, [], ℕ, List, Option, Some, None, length}
 use Rattle.std.proofs.Common.{ap, arith, refl, sym}
-use Rattle.chew_spec_dictionary.specs.FiveRows.{ce4, five_rows}
+use Rattle.chew_spec_dictionary.specs.FiveRows.{ce4}
 use Rattle.chew_spec_dictionary.specs.History.{Entry, calls_of}
 use Rattle.chew_spec_program.specs.Context.{talk_in}
 use Rattle.chew_spec_program.specs.Output.{output}
 use Rattle.chew_spec_program.specs.Run.{IsRun}
 use Rattle.chew_spec_program.specs.Sample.{five_basis, look_by, run_words}
-use Rattle.chew_spec_program.specs.SampleRun.{before_enter, five_ended, five_journal, five_keys, five_outside, five_output, five_text, keys_text}
+use Rattle.chew_spec_program.specs.SampleRun.{before_enter, five_ended, five_journal, five_keys, five_looks, five_outside, five_output, five_text, keys_text}
 use Rattle.chew_spec_program.proofs.ToldRuns.{whole-one}
 use Rattle.chew_spec_program.proofs.laws.known_run.wrong_runs.Goals as goal
 
 -- what such a run would have taken, and what its calls would be
 told : (taken : List ℕ) (journal : List Entry) → IsRun run_words (five_outside taken) (five_ended journal)
     → (Some taken ≡ Some (output ((talk_in five_basis journal 1 five_keys).lines ∷ []))) × (calls_of journal 1 ≡ (talk_in five_basis journal 1 five_keys).calls)
-unfolding opening dictionary_rows is_phrase is_utf8 chars syllable_reading script_of keys_in encode_utf8 five_rows digits
+unfolding opening dictionary_rows is_phrase is_utf8 syllable_reading script_of encode_utf8 typing
 told taken journal run =
     whole-one run_words (five_outside taken) (five_ended journal) five_text keys_text five_basis five_keys 0 run refl
     (record { told = refl; calm = λ rose. omega arith }) (record { told = refl; calm = λ rose. omega arith }) refl
@@ -48,20 +39,26 @@ apart : (n m : ℕ) → n < m → n ≡ m → ⊥
 apart n m l e = omega arith
 
 pub returns-clause-line_less : goal.returns-clause-line_less
-unfolding opening dictionary_rows is_phrase is_utf8 chars syllable_reading script_of keys_in five_rows talk_from press finish fed text_of combined_hits best_of piece_at unicode_width hits_of digits encode_utf8 line_text
+unfolding opening dictionary_rows is_phrase is_utf8 syllable_reading script_of talk_from typing unicode_width encode_utf8
 returns-clause-line_less c = λ run.
     let sizes : length before_enter ≡ length five_output = ap size (told before_enter five_journal run).0 in
     apart (length before_enter) (length five_output) (omega arith) sizes
 
+pub returns-clause-learn_less : goal.returns-clause-learn_less
+unfolding opening dictionary_rows is_phrase is_utf8 syllable_reading script_of talk_from typing unicode_width encode_utf8
+returns-clause-learn_less c = λ run.
+    let sizes : length five_output ≡ length before_enter = ap size (told five_output five_looks run).0 in
+    apart (length before_enter) (length five_output) (omega arith) (sym sizes)
+
 pub returns-clause-call_more : goal.returns-clause-call_more
-unfolding opening dictionary_rows is_phrase is_utf8 chars syllable_reading script_of keys_in five_rows talk_from press finish fed text_of combined_hits best_of piece_at unicode_width hits_of digits encode_utf8 line_text
+unfolding opening dictionary_rows is_phrase is_utf8 syllable_reading script_of talk_from typing unicode_width encode_utf8
 returns-clause-call_more c = λ run.
-    let three : ℕ = 3 in
-    let count : three ≡ 2 = ap length (told five_output (five_journal ++ look_by 1 (ce4 ∷ []) ∷ []) run).1 in
-    apart 2 3 (omega arith) (sym count)
+    let four : ℕ = 4 in
+    let count : four ≡ 3 = ap length (told five_output (five_journal ++ look_by 1 (ce4 ∷ []) ∷ []) run).1 in
+    apart 3 4 (omega arith) (sym count)
 
 pub returns-clause-byte_more : goal.returns-clause-byte_more
-unfolding opening dictionary_rows is_phrase is_utf8 chars syllable_reading script_of keys_in five_rows talk_from press finish fed text_of combined_hits best_of piece_at unicode_width hits_of digits encode_utf8 line_text
+unfolding opening dictionary_rows is_phrase is_utf8 syllable_reading script_of talk_from typing unicode_width encode_utf8
 returns-clause-byte_more c = λ run.
     let sizes : length (five_output ++ 10 ∷ []) ≡ length five_output = ap size (told (five_output ++ 10 ∷ []) five_journal run).0 in
     apart (length five_output) (length (five_output ++ 10 ∷ [])) (omega arith) (sym sizes)
