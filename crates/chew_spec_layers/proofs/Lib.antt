@@ -1,0 +1,7 @@
+pub mod Marks
+pub mod Overlays
+pub mod Proper
+pub mod Standings
+pub mod Steps
+pub mod Stretches
+pub mod Touches

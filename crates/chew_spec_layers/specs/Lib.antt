@@ -1,0 +1,6 @@
+pub mod Known
+pub mod Layers
+pub mod Mark
+pub mod Overlay
+pub mod Standing
+pub mod Touched

@@ -1,0 +1,9 @@
+//! Laws and known values of the definitions.
+
+mod known;
+mod marks;
+mod overlays;
+mod standings;
+mod steps;
+mod stretches;
+mod touches;
