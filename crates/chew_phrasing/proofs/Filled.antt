@@ -1,5 +1,5 @@
 -- The grid of a run, one interval filled at a time.
-use Rattle.std.proofs.Common.{◌≡◌, ◌≢◌, ℕ, ◌+◌, ◌*◌, ◌<◌, ◌≤◌, Bool, true, false, cond, ◌&&◌, ◌⊎◌, inl, inr, ⊎_elim, List, [], ◌∷◌, ◌++◌, length, get_or, set, find, take, drop, filter, map, All, Contains, Option, Some, None, is_none, option_map, sym, refl, ap, ap₂, ◌∙◌, subst, true≢false, arith}
+use Rattle.std.proofs.Common.{◌≡◌, ℕ, ◌+◌, ◌*◌, ◌<◌, ◌≤◌, Bool, true, false, cond, ◌&&◌, inl, inr, ⊎_elim, List, [], ◌∷◌, ◌++◌, length, get_or, set, find, All, Contains, Option, Some, None, is_none, option_map, sym, refl, ap, ap₂, ◌∙◌, subst, true≢false, arith}
 use Rattle.std.specs.Prelude.{nat_le}
 use Rattle.std.specs.Option.{option_map_or}
 use Rattle.std.proofs.lemmas.Bool.{le-leb}
@@ -8,10 +8,8 @@ use Rattle.std.proofs.lemmas.List.Elements.{All-contains, Contains-append_cases}
 use Rattle.std.proofs.lemmas.Option.{none-some}
 use Rattle.chew_spec_dictionary.specs.Call.{Hit}
 use Rattle.chew_spec_dictionary.specs.Look.{Interval, intervals}
-use Rattle.chew_spec_phrasing.specs.Combined.{is_hit_at}
-use Rattle.chew_spec_phrasing.specs.Usable.{Choice, Piece, first_row, is_exactly, is_unbroken, keeps_choices, piece_at, piece_of_choice, piece_of_hit}
+use Rattle.chew_spec_phrasing.specs.Usable.{Choice, Piece, first_row, is_exactly, is_unbroken, piece_at, piece_of_choice, piece_of_hit}
 use Rattle.chew_spec_phrasing.proofs.CombinedSegment.{Contains-intervals}
-use Rattle.chew_spec_phrasing.proofs.Intervals.{IsIn}
 use Rattle.chew_spec_phrasing.proofs.Membership.{Contains-single}
 use Rattle.chew_phrasing.specs.Grid.{Grid, IsFilled, IsGrid, IsInside, in_slot, put_in, slot_of}
 use Rattle.chew_phrasing.proofs.Offers.{nothing, same_interval, same_or_other, something}

@@ -1,6 +1,5 @@
 -- The first row of an interval is the first of its combined rows that keeps the choices.
-use Rattle.std.proofs.Common.{◌≡◌, ℕ, ◌+◌, ◌-◌, ◌<◌, ◌≤◌, Bool, true, false, cond, ◌&&◌, ◌⊎◌, ⊎_elim, List, [], ◌∷◌, ◌++◌, map, filter, flat_map, find, length, take, drop, All, Contains, Option, Some, None, option_map, is_lt, sym, refl, ap, ap₂, ◌∙◌, subst, true≢false, arith}
-use Rattle.std.proofs.lemmas.Bool.{false≢true}
+use Rattle.std.proofs.Common.{◌≡◌, ℕ, ◌+◌, ◌≤◌, Bool, true, false, cond, ◌&&◌, ⊎_elim, List, [], ◌∷◌, ◌++◌, map, filter, find, length, drop, All, Contains, Option, Some, None, is_lt, sym, refl, ap, ap₂, ◌∙◌, subst, true≢false, arith}
 use Rattle.std.proofs.lemmas.List.{length-drop, length-take}
 use Rattle.std.proofs.lemmas.List.Elements.{All-append, All-contains, All-filter, All-head, All-map, All-tail, All-weaker, filter_passes}
 use Rattle.std.proofs.lemmas.List.Sorted.{All-permutation}
@@ -12,13 +11,13 @@ use Rattle.chew_spec_dictionary.specs.System.{rows_of}
 use Rattle.chew_spec_dictionary.proofs.Order.{NoneBelow, Rises, order_permutes, order_rises, order_sorted}
 use Rattle.chew_spec_dictionary.proofs.Rows.{shown_hit_total}
 use Rattle.chew_spec_phrasing.specs.Combined.{as_shown, combined, combined_hits, found_rows, is_free_of, is_hit_at, is_shown, shown_hit, unsorted_hits}
-use Rattle.chew_spec_phrasing.specs.Usable.{Choice, first_row, keeps_choices}
+use Rattle.chew_spec_phrasing.specs.Usable.{Choice, first_row}
 use Rattle.chew_spec_phrasing.proofs.Greatest.{tied_from_both}
 use Rattle.chew_spec_phrasing.proofs.InOrder.{Contains-from_in_order, Contains-in_order}
 use Rattle.chew_spec_phrasing.proofs.Intervals.{IsIn, flat_map_alike, hits_at, map-map}
 use Rattle.chew_spec_phrasing.proofs.Membership.{Contains-cases, Contains-head, Contains-tail}
 use Rattle.chew_spec_phrasing.proofs.SortedHits.{IsHitOf, IsHitOf-from_test, hits_from_sorted, same_hits}
-use Rattle.chew_phrasing.specs.Least.{IsBefore, IsLeast, keeps}
+use Rattle.chew_phrasing.specs.Least.{IsLeast, keeps}
 
 none_below : (x y : Hit) (ys : List Hit) → NoneBelow shown_hit_cmp x ys → Contains ys y → is_lt (shown_hit_cmp y x) ≡ false
 none_below x y [] h i = absurd (omega (arith, i.1))

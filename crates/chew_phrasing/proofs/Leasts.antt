@@ -1,7 +1,6 @@
 -- The first of hits to be shown, one more at a time, and in their order.
-use Rattle.std.proofs.Common.{◌≡◌, ℕ, Bool, true, false, not, cond, ◌⊎◌, inl, inr, ⊎_elim, List, [], ◌∷◌, ◌++◌, append-nil, map, filter, find, All, Contains, Option, Some, None, Ordering, Less, Equal, Greater, is_lt, nat_cmp, sym, refl, ap, ap₂, ◌∙◌, subst, true≢false, arith}
+use Rattle.std.proofs.Common.{◌≡◌, Bool, true, false, ⊎_elim, List, [], ◌∷◌, ◌++◌, append-nil, Contains, Option, Some, None, is_lt, sym, refl, ap, ◌∙◌, subst, true≢false, arith}
 use Rattle.std.specs.Cmp.{IsStrictWeakOrder}
-use Rattle.std.proofs.lemmas.Bool.{false≢true}
 use Rattle.std.proofs.lemmas.List.Elements.{Contains-append_cases, Contains-append_left, Contains-push}
 use Rattle.std.proofs.lemmas.List.MinMax.{ranks_by}
 use Rattle.std.proofs.lemmas.Option.{none-some, same_Some}

@@ -4,6 +4,7 @@ pub mod Counting
 pub mod Emptying
 pub mod Filled
 pub mod Filling
+pub mod FirstPlaces
 pub mod Firsts
 pub mod GridPieces
 pub mod HitRanges

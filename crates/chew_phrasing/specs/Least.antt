@@ -1,12 +1,11 @@
 -- The first row of an interval to be shown, of those that keep the choices, in whatever order they come.
-use Rattle.std.specs.Prelude.{◌≡◌, ℕ, Bool, true, false, not, List, [], ◌∷◌, ◌++◌, All, Contains, map, filter, bytes_eq, Option, Some, None, if◌then◌else◌}
+use Rattle.std.specs.Prelude.{◌≡◌, ℕ, Bool, true, false, List, [], ◌∷◌, Contains, bytes_eq, Option, Some, None, if◌then◌else◌}
 use Rattle.std.specs.List.{list_any}
 use Rattle.std.specs.Cmp.Lexicographic.{slice_cmp}
 use Rattle.std.specs.Ordering.{is_lt, nat_cmp, ordering_then}
-use Rattle.chew_spec_syllable.specs.Row.{Row}
 use Rattle.chew_spec_dictionary.specs.Call.{Hit}
 use Rattle.chew_spec_dictionary.specs.Look.{Interval, shown_hit_cmp}
-use Rattle.chew_spec_phrasing.specs.Combined.{as_shown, is_free_of, is_shown, shown_hit}
+use Rattle.chew_spec_phrasing.specs.Combined.{as_shown, is_shown}
 use Rattle.chew_spec_phrasing.specs.Usable.{Choice, keeps_choices}
 
 -- it passes, and of the others that do none is shown before it

@@ -1,5 +1,6 @@
 pub mod Combine
 pub mod Counts
+pub mod FirstPlace
 pub mod Grid
 pub mod Least
 pub mod Merge

@@ -1,4 +1,4 @@
-ghost use Rattle.std.specs.Prelude.{◌≡◌, ◌+◌, ◌-◌, ◌<◌, ◌≤◌, ◌++◌, IsTrue, List, length, map, filter, chars, Option};
+ghost use Rattle.std.specs.Prelude.{◌≡◌, ℕ, ◌+◌, ◌-◌, ◌<◌, ◌≤◌, ◌++◌, All, IfOk, IsTrue, List, OnOk, length, map, filter, chars, Option};
 ghost use Rattle.std.specs.List.{list_all};
 ghost use Rattle.std.specs.Ordering.{is_lt};
 ghost use Rattle.chew_spec_syllable.specs.Phrase.{is_phrase};
@@ -6,35 +6,78 @@ ghost use Rattle.chew_spec_dictionary.specs.Call as dictionary;
 ghost use Rattle.chew_spec_dictionary.specs.Look.{shown_hit_cmp};
 ghost use Rattle.chew_spec_dictionary.specs.System.{rows_of};
 ghost use Rattle.chew_spec_phrasing.specs.Combined.{as_shown, is_free_of, is_shown, shown_hit};
+ghost use Rattle.chew_phrasing.specs.FirstPlace.{AreOfKey, IsKnown, rows_between};
 ghost use Rattle.chew_phrasing.specs.Least.{IsLeast, comes_before, found_one, free_one, keeps};
 
 use crate::combined::{as_hit, as_shown, is_shown, is_taken};
+use crate::first_place::{FirstPlace, first_place};
 use crate::piece::Choice;
 use crate::rules::keeps_choices;
 use chew_plain::{Hit, Interval, Lexicon};
-use chew_syllable::Syllable;
+use chew_syllable::{NoMemory, Syllable};
+
+/// A key has many rows from so many on. It pays then to keep the place of the one that is shown first.
+const MANY_ROWS: u32 = 256;
 
 /// The first combined row of an interval that keeps the choices: of the hits that were found for it those that are
-/// shown, and of the system's rows of its key those whose phrase no hit has. No list of them all is made.
+/// shown, and of the system's rows of its key those whose phrase no hit has. No list of them all is made. Where the key
+/// has many rows, the one that is shown first mostly settles it, and its place is kept among `firsts`.
 pub(crate) fn first_row<L: Lexicon>(
     system: &L,
     key: &[Syllable],
     found: &[Hit],
     choices: &[Choice],
     at: Interval,
-) -> Option<Hit>
+    firsts: &mut Vec<FirstPlace>,
+) -> Result<Option<Hit>, NoMemory>
     requires long { length key.now ≡ at.len }
     requires some { 1 ≤ at.len }
     requires few { at.len ≤ 11 }
-    ensures { IsLeast (keeps choices.now at) (map as_shown (filter is_shown found.now) ++ map (shown_hit at) (filter (is_free_of found.now) (rows_of (L.rows system.now) key.now))) result }
+    requires firsts { All (IsKnown (L.rows system.now)) firsts.old.items }
+    ensures firsts { OnOk result (All (IsKnown (L.rows system.now)) firsts.new.items) }
+    ensures first { IfOk result (λ first. IsLeast (keeps choices.now at) (map as_shown (filter is_shown found.now) ++ map (shown_hit at) (filter (is_free_of found.now) (rows_of (L.rows system.now) key.now))) first) }
 {
-    let mut first = first_found(found, choices, at);
+    let first = first_found(found, choices, at);
     let places = system.places(key);
-    for i in 0..places.end - places.start {
-        let row = system.row_at(places.start + i);
-        offer_row(&mut first, row.phrase, row.freq, found, choices, at);
+    let (start, end) = (places.start, places.end);
+    if end - start < MANY_ROWS {
+        return Ok(walk(system, start, end, first, found, choices, at));
     }
-    first
+    let row = system.row_at(first_place(system, start, end, firsts)?);
+    if !comes_before(row.phrase, row.freq, &first) {
+        return Ok(first);
+    }
+    if !keeps_choices(choices, at, row.phrase) {
+        return Ok(walk(system, start, end, first, found, choices, at));
+    }
+    if is_taken(row.phrase, found) {
+        return Ok(walk(system, start, end, first, found, choices, at));
+    }
+    Ok(Some(as_hit(row.phrase, row.freq, at)))
+}
+
+/// The first of one so far and of the system's rows from a place up to another, which are those of a key.
+fn walk<L: Lexicon>(
+    system: &L,
+    start: u32,
+    end: u32,
+    first: Option<Hit>,
+    found: &[Hit],
+    choices: &[Choice],
+    at: Interval,
+) -> Option<Hit>
+    requires order { start ≤ end }
+    requires key { (key : List ℕ) × AreOfKey (L.rows system.now) start end key × (length key ≡ at.len) }
+    requires some { 1 ≤ at.len }
+    requires few { at.len ≤ 11 }
+    ensures { (before : List dictionary.Hit) → IsLeast (keeps choices.now at) before first → IsLeast (keeps choices.now at) (before ++ map (shown_hit at) (filter (is_free_of found.now) (rows_between (L.rows system.now) start end))) result }
+{
+    let mut best = first;
+    for i in 0..end - start {
+        let row = system.row_at(start + i);
+        offer_row(&mut best, row.phrase, row.freq, found, choices, at);
+    }
+    best
 }
 
 /// The first of the hits that are shown and keep the choices.

@@ -5,6 +5,7 @@ mod characters;
 mod combined;
 mod counts;
 mod entry;
+mod first_place;
 mod first_row;
 mod grid;
 mod interval;

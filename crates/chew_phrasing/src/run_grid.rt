@@ -2,9 +2,11 @@ ghost use Rattle.std.specs.Prelude.{◌≡◌, ◌≤◌, ◌<◌, ◌+◌, ◌+
 ghost use Rattle.chew_spec_dictionary.specs.Look as look;
 ghost use Rattle.chew_spec_phrasing.specs.Combined.{combined_hits};
 ghost use Rattle.chew_spec_phrasing.specs.Usable.{phrase_len, piece_at};
+ghost use Rattle.chew_phrasing.specs.FirstPlace.{IsKnown};
 ghost use Rattle.chew_phrasing.specs.Grid.{IsFilled, IsGrid, IsInside};
 
 use crate::combined::hits_at;
+use crate::first_place::FirstPlace;
 use crate::first_row::first_row;
 use crate::grid::Grid;
 use crate::piece::{Choice, piece_of_hit};
@@ -29,16 +31,26 @@ pub(crate) fn grid_of_run<L: Lexicon>(
 {
     let mut grid = Grid::of_choices(alloc, run.len(), choices)?;
     let all = intervals(alloc, run.len())?;
+    let mut firsts = Vec::new(alloc);
     for at in all.as_slice() {
-        fill(alloc, &mut grid, system, run, user, breaks, choices, *at)?;
+        fill(
+            &mut grid,
+            &mut firsts,
+            system,
+            run,
+            user,
+            breaks,
+            choices,
+            *at,
+        )?;
     }
     Ok(grid)
 }
 
 /// Finds the piece of an interval of the run, where it has none yet.
 fn fill<L: Lexicon>(
-    alloc: Global,
     grid: &mut Grid,
+    firsts: &mut Vec<FirstPlace>,
     system: &L,
     run: &[Syllable],
     user: &[Hit],
@@ -48,6 +60,8 @@ fn fill<L: Lexicon>(
 ) -> Result<(), NoMemory>
     requires inside { IsInside grid.old.cells at }
     requires run { grid.old.cells ≡ length run.now }
+    requires firsts { All (IsKnown (L.rows system.now)) firsts.old.items }
+    ensures firsts { OnOk result (All (IsKnown (L.rows system.now)) firsts.new.items) }
     ensures cells { grid.new.cells ≡ grid.old.cells }
     ensures filled { OnOk result ((done : List look.Interval)
         → IsFilled (piece_at (combined_hits (L.rows system.now) run.now user.now) breaks.now choices.now) (piece_at [] breaks.now choices.now) done grid.old
@@ -59,14 +73,10 @@ fn fill<L: Lexicon>(
     if !is_unbroken(breaks, at) {
         return Ok(());
     }
-    let found = hits_at(alloc, user, at)?;
-    match first_row(
-        system,
-        &run[at.start..at.start + at.len],
-        &found,
-        choices,
-        at,
-    ) {
+    let found = hits_at(*firsts.allocator(), user, at)?;
+    let key = &run[at.start..at.start + at.len];
+    let first = first_row(system, key, &found, choices, at, firsts)?;
+    match first {
         Some(hit) => {
             grid.put(at, piece_of_hit(&hit));
             Ok(())

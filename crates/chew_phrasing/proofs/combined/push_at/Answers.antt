@@ -1,7 +1,6 @@
 -- The hits that are shown and the system's free rows, in the order in which they are shown.
-use Rattle.std.proofs.Common.{◌≡◌, ◌+◌, ◌-◌, ◌≤◌, List, ◌++◌, length, take, drop, map, filter, ap, ◌∙◌, arith}
+use Rattle.std.proofs.Common.{◌+◌, ◌-◌, List, ◌++◌, take, drop, map, filter, ap, ◌∙◌}
 use Rattle.chew_spec_dictionary.specs.Call.{Hit}
-use Rattle.chew_spec_dictionary.specs.Look.{Interval}
 use Rattle.chew_spec_dictionary.specs.System.{rows_of}
 use Rattle.chew_spec_phrasing.specs.Combined.{as_shown, is_free_of, is_shown, shown_hit}
 use Rattle.chew_phrasing.proofs.Combining.{codes_between, combined_from_sorted}

@@ -1,5 +1,5 @@
 -- The choice reaches past the run, or its cells have a piece, or it becomes their piece.
-use Rattle.std.proofs.Common.{◌≡◌, ◌*◌, [], ◌∷◌, ◌++◌, length, sym, ap, ap₂, ◌∙◌, subst, arith}
+use Rattle.std.proofs.Common.{[], ◌∷◌, ◌++◌, sym, ap, ap₂, ◌∙◌, subst, arith}
 use Rattle.chew_spec_dictionary.specs.Look.{Interval}
 use Rattle.chew_spec_phrasing.specs.Usable.{Choice, phrase_len, piece_at}
 use Rattle.chew_phrasing.specs.Grid.{Grid, IsGrid, put_in}

@@ -1,5 +1,5 @@
 -- The row reaches past the run, or its interval has a piece, or a break or a choice bars it, or it becomes the piece.
-use Rattle.std.proofs.Common.{◌≡◌, ◌*◌, [], ◌∷◌, ◌++◌, length, sym, ap, ap₂, ◌∙◌, subst, arith}
+use Rattle.std.proofs.Common.{[], ◌∷◌, ◌++◌, sym, ap, ap₂, ◌∙◌, subst, arith}
 use Rattle.chew_spec_dictionary.specs.Call.{Hit}
 use Rattle.chew_spec_dictionary.specs.Look.{Interval}
 use Rattle.chew_spec_phrasing.specs.Usable.{piece_at}
