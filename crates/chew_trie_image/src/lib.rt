@@ -9,6 +9,7 @@ mod node;
 mod nodes_read;
 mod number;
 mod parts;
+mod phrase;
 mod rows_read;
 mod walk;
 

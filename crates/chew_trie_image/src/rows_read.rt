@@ -5,7 +5,7 @@ ghost use Rattle.chew_spec_image.specs.ReadRows.{past_row, phrase_fits, phrase_i
 use crate::counts::Counts;
 use crate::fault::ImageFault;
 use crate::fields::{ROW_LEN, RowFields};
-use chew_syllable::Phrase;
+use crate::phrase::is_phrase_of;
 use std::marker::Model;
 
 /// The greatest frequency.
@@ -70,15 +70,10 @@ impl<'a> RowsRead<'a> {
     fn phrase_fits(&self, len: u32, first: bool, phrase: &[u8]) -> bool
         ensures { result ≡ phrase_fits len first self.now phrase.now }
     {
-        match Phrase::read(phrase) {
-            Err(_) => false,
-            Ok(read) => {
-                if read.characters() != len as usize {
-                    return false;
-                }
-                first || self.phrase.cmp(phrase).is_lt()
-            }
+        if !is_phrase_of(phrase, len) {
+            return false;
         }
+        first || self.phrase.cmp(phrase).is_lt()
     }
 
     /// The fault of a field of the next row, by its offset there.

@@ -1,8 +1,8 @@
-ghost use Rattle.std.specs.Prelude.{◌≡◌, ℕ, ◌+◌, ◌*◌, ◌<◌, ◌≤◌, ◌^◌, ◌++◌, OnOk, IsTrue, length, flat_map};
+ghost use Rattle.std.specs.Prelude.{◌≡◌, ℕ, ◌+◌, ◌*◌, ◌<◌, ◌≤◌, ◌^◌, ◌++◌, OnOk, IsTrue, length, flat_map, nat_lt};
 ghost use Rattle.std.specs.List.{list_all};
 ghost use Rattle.chew_spec_syllable.specs.Row.{is_row};
 ghost use Rattle.chew_spec_image.specs.Fields.{row_bytes};
-ghost use Rattle.chew_spec_image.specs.Image.{fields_from, text_of};
+ghost use Rattle.chew_spec_image.specs.Image.{fields_from, has_time, text_of};
 
 use chew_syllable::{KeyRow, NoMemory, Phrase};
 use chew_trie_image::RowFields;
@@ -13,6 +13,20 @@ pub(crate) fn all_are_rows(rows: &[KeyRow])
 {
     for row in rows {
         let _freq = row.freq;
+    }
+}
+
+/// A time has 64 bits. It does nothing, and is there for proofs alone.
+fn has_time(time: u64)
+    ensures { IsTrue (nat_lt time (2 ^ 64)) }
+{}
+
+/// The times of these rows have 64 bits. It does nothing, and is there for proofs alone.
+pub(crate) fn all_have_times(rows: &[KeyRow])
+    ensures { IsTrue (list_all has_time rows.now) }
+{
+    for row in rows {
+        has_time(row.time);
     }
 }
 
