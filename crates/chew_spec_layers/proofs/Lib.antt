@@ -1,4 +1,5 @@
 pub mod Marks
+pub mod Needs
 pub mod Overlays
 pub mod Proper
 pub mod Standings

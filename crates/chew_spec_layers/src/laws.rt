@@ -2,6 +2,7 @@
 
 mod known;
 mod marks;
+mod needs;
 mod overlays;
 mod standings;
 mod steps;

@@ -1,0 +1,6 @@
+pub mod Held
+pub mod Inside
+pub mod Need
+pub mod OneMore
+pub mod Shown
+pub mod Visible

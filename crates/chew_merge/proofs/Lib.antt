@@ -1,0 +1,4 @@
+pub mod Merging
+pub mod Overlaying
+pub mod Prefix
+pub mod Steps
