@@ -1,0 +1,14 @@
+pub mod Floors
+pub mod Fronts
+pub mod Keepers
+pub mod Sessions
+pub mod InStep
+pub mod Writing
+pub mod Steps
+pub mod Counts
+pub mod LastRounds
+pub mod Rounds
+pub mod Known
+pub mod Reading
+pub mod KnownNumbers
+pub mod OwnCalls
