@@ -6,6 +6,7 @@ ghost use Rattle.chew_spec_slots.specs.Fits.{Fits};
 ghost use Rattle.chew_spec_slots.specs.Keep.{acknowledged_state, found_keep, keep_for, left_state};
 ghost use Rattle.chew_spec_slots.specs.Recovery.{checkpoint_of, newest, recovered, refusal};
 ghost use Rattle.chew_slots.specs.Answers.{Answers, AreTold, disk_failed};
+ghost use Rattle.chew_slots.specs.Calls.{reading_calls};
 ghost use Rattle.chew_slots.specs.Stored.{reading_of};
 ghost use Rattle.chew_slots.specs.Untouched.{IsUntouched};
 
@@ -38,8 +39,10 @@ pub fn recover<D: Disk>(alloc: Global, disk: &mut D) -> Result<Found, SlotFault>
     ensures is_disk { D.told disk.old ≡ true → IsDisk (D.state disk.new) }
     ensures untouched { D.told disk.old ≡ true → IsUntouched (D.state disk.old) (D.state disk.new) }
     ensures cause { HasCause (D.faults disk.old) (D.faults disk.new) (disk_failed result) }
-    ensures calls { D.told disk.old ≡ true → (D.state disk.new).moment ≤ (D.state disk.old).moment + 4 }
-    ensures order { D.told disk.old ≡ true → refusal 0 ((D.state disk.old).reads 0) ≢ None → (D.state disk.new).moment ≤ (D.state disk.old).moment + 2 }
+    ensures calls { D.told disk.old ≡ true → (D.state disk.new).moment ≤ (D.state disk.old).moment
+        + (reading_calls ((D.state disk.old).reads 0) + reading_calls ((D.state disk.old).reads 1)) }
+    ensures order { D.told disk.old ≡ true → refusal 0 ((D.state disk.old).reads 0) ≢ None →
+        (D.state disk.new).moment ≤ (D.state disk.old).moment + reading_calls ((D.state disk.old).reads 0) }
     ensures answer { (zero one : List ℕ) × AreTold (D.told disk.old) ((D.state disk.old).reads 0) zero
         × AreTold (D.told disk.old) ((D.state disk.old).reads 1) one × Answers (recovered zero one) (found_keep zero one) result }
     ensures fits { D.told disk.old ≡ true → IsSettled (D.state disk.old) 0 → IsSettled (D.state disk.old) 1 →

@@ -5,6 +5,7 @@ ghost use Rattle.chew_spec_outside.specs.Faults.{HasCause};
 ghost use Rattle.chew_spec_disk.specs.Disk.{IsDisk};
 ghost use Rattle.chew_spec_slots.specs.Recovery.{Recovery, refusal, unless_refused};
 ghost use Rattle.chew_slots.specs.Answers.{AreTold, IsRead, ReadsAs, TellsRefusal, disk_failed};
+ghost use Rattle.chew_slots.specs.Calls.{reading_calls};
 ghost use Rattle.chew_slots.specs.Untouched.{IsUntouched};
 
 use crate::SlotFault;
@@ -23,7 +24,7 @@ pub(crate) struct SlotRead {
     pub(crate) is_shut: bool,
 }
 
-/// Reads a slot and nothing else. It makes at most two calls, and one where the slot is empty.
+/// Reads a slot and nothing else. An empty slot isn't read.
 pub(crate) fn read_slot<D: Disk>(
     alloc: Global,
     disk: &mut D,
@@ -34,7 +35,7 @@ pub(crate) fn read_slot<D: Disk>(
     ensures is_disk { D.told disk.old ≡ true → IsDisk (D.state disk.new) }
     ensures untouched { D.told disk.old ≡ true → IsUntouched (D.state disk.old) (D.state disk.new) }
     ensures cause { HasCause (D.faults disk.old) (D.faults disk.new) (disk_failed result) }
-    ensures calls { D.told disk.old ≡ true → (D.state disk.new).moment ≤ (D.state disk.old).moment + 2 }
+    ensures calls { D.told disk.old ≡ true → (D.state disk.new).moment ≤ (D.state disk.old).moment + reading_calls ((D.state disk.old).reads slot) }
     ensures reads { (bytes : List ℕ) × AreTold (D.told disk.old) ((D.state disk.old).reads slot) bytes × ReadsAs slot bytes result }
 {
     match read_bytes(alloc, disk, slot) {
@@ -67,7 +68,7 @@ fn read_bytes<D: Disk>(alloc: Global, disk: &mut D, slot: u8) -> Result<Vec<u8>,
     ensures is_disk { D.told disk.old ≡ true → IsDisk (D.state disk.new) }
     ensures untouched { D.told disk.old ≡ true → IsUntouched (D.state disk.old) (D.state disk.new) }
     ensures cause { HasCause (D.faults disk.old) (D.faults disk.new) (disk_failed result) }
-    ensures calls { D.told disk.old ≡ true → (D.state disk.new).moment ≤ (D.state disk.old).moment + 2 }
+    ensures calls { D.told disk.old ≡ true → (D.state disk.new).moment ≤ (D.state disk.old).moment + reading_calls ((D.state disk.old).reads slot) }
     ensures bytes { IfOk result (λ bytes. AreTold (D.told disk.old) ((D.state disk.old).reads slot) bytes.items) }
     ensures fits { IfOk result (λ bytes. length bytes.items ≤ 2 ^ 28) }
     ensures refused { IfErr result (λ fault. (bytes : List ℕ) × AreTold (D.told disk.old) ((D.state disk.old).reads slot) bytes
@@ -98,6 +99,7 @@ fn read_so_many<D: Disk>(
     ensures is_disk { D.told disk.old ≡ true → IsDisk (D.state disk.old) → IsDisk (D.state disk.new) }
     ensures cause { HasCause (D.faults disk.old) (D.faults disk.new) (disk_failed result) }
     ensures calls { D.told disk.old ≡ true → (D.state disk.new).moment ≤ (D.state disk.old).moment + 1 }
+    ensures empty { D.told disk.old ≡ true → len ≡ 0 → (D.state disk.new).moment ≡ (D.state disk.old).moment }
     ensures bytes { IfOk result (λ bytes. len ≡ length ((D.state disk.old).reads slot) → AreTold (D.told disk.old) ((D.state disk.old).reads slot) bytes.items) }
     ensures fits { IfOk result (λ bytes. length bytes.items ≤ 2 ^ 28) }
     ensures fault { IfErr result (λ fault. (recovery : Recovery) → TellsRefusal recovery fault) }

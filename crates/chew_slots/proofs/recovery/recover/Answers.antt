@@ -1,6 +1,7 @@
 -- By what both slots are read as.
 use Rattle.std.proofs.Common.{refl, sym, ap, ◌∙◌}
 use Rattle.chew_spec_slots.specs.Recovery.{refusal}
+use Rattle.chew_slots.proofs.Moments.{both-calls}
 use Rattle.chew_slots.proofs.Recovering.{all-found, answer-by, first-refused, fits-ok, left-ok, second-refused, state-ok}
 use Rattle.chew_slots.proofs.recovery.recover.Goals as goal
 
@@ -62,6 +63,18 @@ returns-clause-left g c told zero one =
     left-ok after c.newer.result
     (all-found before middle after r.0 s.0 c.in-Ok.read c.in-Ok-read_slot.read c.newer.result (c.in-Ok.ensures.untouched told) (c.in-Ok-read_slot.ensures.untouched told_now)
     (c.in-Ok-read_slot.ensures.is_disk told_now) zero one (r.1 told) (s.1 told_now) r.2 s.2 c.newer.ensures.keep c.newer.ensures.state c.newer.ensures.memory)
+
+pub returns-in-Err-read_slot-clause-calls : goal.returns-in-Err-read_slot-clause-calls
+returns-in-Err-read_slot-clause-calls g c told =
+    let told_now = c.in-Ok.ensures.told ∙ told in
+    both-calls (g.D.Disk.state c.args.disk.now) (g.D.Disk.state c.read_slot.new.disk) (g.D.Disk.state c.read_slot-2.new.disk)
+    (c.in-Ok.ensures.calls told) ((c.in-Ok.ensures.untouched told).reads 1) (c.in-Err-read_slot.ensures.calls told_now)
+
+pub returns-clause-calls : goal.returns-clause-calls
+returns-clause-calls g c told =
+    let told_now = c.in-Ok.ensures.told ∙ told in
+    both-calls (g.D.Disk.state c.args.disk.now) (g.D.Disk.state c.read_slot.new.disk) (g.D.Disk.state c.read_slot-2.new.disk)
+    (c.in-Ok.ensures.calls told) ((c.in-Ok.ensures.untouched told).reads 1) (c.in-Ok-read_slot.ensures.calls told_now)
 
 pub returns-in-Err-read_slot-clause-order : goal.returns-in-Err-read_slot-clause-order
 returns-in-Err-read_slot-clause-order g c told refused =

@@ -4,8 +4,9 @@ use Rattle.chew_spec_disk.specs.Sync.{SyncAnswers}
 use Rattle.chew_spec_disk.specs.Write.{WriteAnswers}
 use Rattle.chew_spec_slots.proofs.Stages.{shuts-already, shuts-as, shuts-by-calls, shuts-failed, stage-gate, stage-gate-failed, stage-start, stage-sync-failed}
 use Rattle.chew_spec_disk.proofs.Calls.{write-done}
+use Rattle.chew_spec_disk.proofs.Moments.{later-same}
 use Rattle.chew_spec_outside.specs.Faults.{risen}
-use Rattle.chew_slots.proofs.Moments.{sync-rises, write-rises}
+use Rattle.chew_slots.proofs.Moments.{both-later, sync-rises, write-later, write-rises}
 use Rattle.chew_slots.proofs.keep.Keep.close_gate.Goals as goal
 
 pub returns-then-is_shut-clause-shuts : goal.returns-then-is_shut-clause-shuts
@@ -75,3 +76,20 @@ pub returns-then-is_shut-clause-calls : goal.returns-then-is_shut-clause-calls
 returns-then-is_shut-clause-calls g c told =
     let before = g.D.Disk.state c.args.disk.now in
     sym (ap (λ b. cond b before.moment (risen (risen before.moment))) (sym c.is_shut.ensures ∙ c.if-is_shut.true))
+
+pub returns-then-is_err-clause-later : goal.returns-then-is_err-clause-later
+returns-then-is_err-clause-later g c told =
+    write-later c.target-slot.result 0 (0 ∷ []) (g.D.Disk.state c.args.disk.now) (g.D.Disk.state c.write_at.new.self) c.write_at.result (c.write_at.ensures.answer told)
+
+pub returns-then-is_err-2-clause-later : goal.returns-then-is_err-2-clause-later
+returns-then-is_err-2-clause-later g c told =
+    both-later c.target-slot.result 0 (0 ∷ []) (g.D.Disk.state c.args.disk.now) (g.D.Disk.state c.write_at.new.self) (g.D.Disk.state c.sync.new.self) c.write_at.result c.sync.result
+    (c.write_at.ensures.answer told) (c.sync.ensures.answer (c.write_at.ensures.told ∙ told))
+
+pub returns-clause-later : goal.returns-clause-later
+returns-clause-later g c told =
+    both-later c.target-slot.result 0 (0 ∷ []) (g.D.Disk.state c.args.disk.now) (g.D.Disk.state c.write_at.new.self) (g.D.Disk.state c.sync.new.self) c.write_at.result c.sync.result
+    (c.write_at.ensures.answer told) (c.sync.ensures.answer (c.write_at.ensures.told ∙ told))
+
+pub returns-then-is_shut-clause-later : goal.returns-then-is_shut-clause-later
+returns-then-is_shut-clause-later g c told = later-same (g.D.Disk.state c.args.disk.now)

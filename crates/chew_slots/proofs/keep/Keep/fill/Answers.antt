@@ -5,7 +5,7 @@ use Rattle.chew_spec_disk.specs.Write.{WriteAnswers}
 use Rattle.chew_spec_disk.proofs.Calls.{write-done}
 use Rattle.chew_spec_slots.proofs.Stages.{fills-by-calls, fills-failed, room-for, stage-body, stage-body-failed, stage-start, stage-sync-failed}
 use Rattle.chew_spec_outside.specs.Faults.{risen}
-use Rattle.chew_slots.proofs.Moments.{sync-rises, write-rises}
+use Rattle.chew_slots.proofs.Moments.{both-later, sync-rises, write-later, write-rises}
 use Rattle.chew_slots.proofs.keep.Keep.fill.Goals as goal
 
 pub returns-then-is_err-clause-fills : goal.returns-then-is_err-clause-fills
@@ -63,3 +63,17 @@ returns-clause-calls g c told =
     let now = g.D.Disk.state c.write_at.new.self in
     sync-rises c.target-target.result now (g.D.Disk.state c.sync.new.self) c.sync.result (c.sync.ensures.answer (c.write_at.ensures.told ∙ told))
     ∙ ap risen (write-rises c.target-target.result 1 c.args.body.now before now c.write_at.result (c.write_at.ensures.answer told))
+
+pub returns-then-is_err-clause-later : goal.returns-then-is_err-clause-later
+returns-then-is_err-clause-later g c told =
+    write-later c.target-target.result 1 c.args.body.now (g.D.Disk.state c.args.disk.now) (g.D.Disk.state c.write_at.new.self) c.write_at.result (c.write_at.ensures.answer told)
+
+pub returns-then-is_err-2-clause-later : goal.returns-then-is_err-2-clause-later
+returns-then-is_err-2-clause-later g c told =
+    both-later c.target-target.result 1 c.args.body.now (g.D.Disk.state c.args.disk.now) (g.D.Disk.state c.write_at.new.self) (g.D.Disk.state c.sync.new.self) c.write_at.result c.sync.result
+    (c.write_at.ensures.answer told) (c.sync.ensures.answer (c.write_at.ensures.told ∙ told))
+
+pub returns-clause-later : goal.returns-clause-later
+returns-clause-later g c told =
+    both-later c.target-target.result 1 c.args.body.now (g.D.Disk.state c.args.disk.now) (g.D.Disk.state c.write_at.new.self) (g.D.Disk.state c.sync.new.self) c.write_at.result c.sync.result
+    (c.write_at.ensures.answer told) (c.sync.ensures.answer (c.write_at.ensures.told ∙ told))

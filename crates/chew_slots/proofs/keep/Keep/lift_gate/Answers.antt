@@ -8,7 +8,7 @@ use Rattle.chew_spec_slots.specs.Slot.{open_gate}
 use Rattle.chew_spec_slots.proofs.Advance.{with_shut-own}
 use Rattle.chew_spec_slots.proofs.Stages.{advanced-same, lift-start, lifts-as, lifts-by-calls, lifts-failed, stage-gate, stage-gate-failed, stage-sync-failed}
 use Rattle.chew_spec_outside.specs.Faults.{risen}
-use Rattle.chew_slots.proofs.Moments.{sync-rises, write-rises}
+use Rattle.chew_slots.proofs.Moments.{both-later, sync-rises, write-later, write-rises}
 use Rattle.chew_slots.proofs.keep.Keep.lift_gate.Goals as goal
 
 pub returns-then-is_err-clause-lifts : goal.returns-then-is_err-clause-lifts
@@ -72,3 +72,17 @@ returns-clause-calls g c told =
     let now = g.D.Disk.state c.write_at.new.self in
     sync-rises c.target-lifted.result now (g.D.Disk.state c.sync.new.self) c.sync.result (c.sync.ensures.answer (c.write_at.ensures.told ∙ told))
     ∙ ap risen (write-rises c.target-lifted.result 0 (open_gate ∷ []) before now c.write_at.result (c.write_at.ensures.answer told))
+
+pub returns-then-is_err-clause-later : goal.returns-then-is_err-clause-later
+returns-then-is_err-clause-later g c told =
+    write-later c.target-lifted.result 0 (open_gate ∷ []) (g.D.Disk.state c.args.disk.now) (g.D.Disk.state c.write_at.new.self) c.write_at.result (c.write_at.ensures.answer told)
+
+pub returns-then-is_err-2-clause-later : goal.returns-then-is_err-2-clause-later
+returns-then-is_err-2-clause-later g c told =
+    both-later c.target-lifted.result 0 (open_gate ∷ []) (g.D.Disk.state c.args.disk.now) (g.D.Disk.state c.write_at.new.self) (g.D.Disk.state c.sync.new.self) c.write_at.result c.sync.result
+    (c.write_at.ensures.answer told) (c.sync.ensures.answer (c.write_at.ensures.told ∙ told))
+
+pub returns-clause-later : goal.returns-clause-later
+returns-clause-later g c told =
+    both-later c.target-lifted.result 0 (open_gate ∷ []) (g.D.Disk.state c.args.disk.now) (g.D.Disk.state c.write_at.new.self) (g.D.Disk.state c.sync.new.self) c.write_at.result c.sync.result
+    (c.write_at.ensures.answer told) (c.sync.ensures.answer (c.write_at.ensures.told ∙ told))
