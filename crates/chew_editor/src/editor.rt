@@ -1,8 +1,8 @@
 ghost use Rattle.std.specs.Prelude.{◌≡◌};
 ghost use Rattle.chew_spec_editor.specs.Editor.{empty_editor};
 
-use crate::settings::Settings;
 use crate::state::{State, Typing};
+use chew_settings::Settings;
 use std::alloc::Global;
 use std::marker::Model;
 

@@ -4,11 +4,11 @@ ghost use Rattle.chew_spec_editor.specs.Invariant.{is_settings};
 ghost use Rattle.chew_layouts.specs.Layouts.{layout_of};
 ghost use Rattle.chew_editor.specs.State.{editor_of};
 
-use crate::settings::Settings;
 use chew_candidates::Window;
 use chew_layouts::Layout;
 use chew_phrasing::Piece;
 use chew_preedit::Preedit;
+use chew_settings::Settings;
 
 /// What is typed, under its settings. To copy it takes no memory.
 #[derive(Drop)]

@@ -10,9 +10,10 @@ ghost use Rattle.chew_spec_editor.specs.Invariant.{HasSingles};
 ghost use Rattle.chew_plain.specs.Call.{call_of, reply_of};
 ghost use Rattle.chew_script.specs.Keys.{key_of, keys_of};
 
-use chew_editor::{Editor, Pressed, Settings, finish, press};
+use chew_editor::{Editor, Pressed, finish, press};
 use chew_plain::{Call, Entry, Plain, Reply, RowMap};
 use chew_script::{KeyStroke, Line, append_entry, append_line};
+use chew_settings::Settings;
 use chew_syllable::NoMemory;
 use std::alloc::Global;
 use std::marker::Model;

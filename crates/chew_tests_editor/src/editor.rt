@@ -2,10 +2,10 @@
 
 use crate::alone::Alone;
 use crate::samples::{after, keys_in};
-use chew_editor::Settings;
 use chew_layouts::Kind;
 use chew_plain::{Plain, RowMap};
 use chew_samples::{are_apart, row, syllable};
+use chew_settings::Settings;
 use std::alloc::Global;
 use std::process::Abort;
 use std::test::Fail;

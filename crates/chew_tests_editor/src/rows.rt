@@ -1,8 +1,8 @@
 //! Lines of editors with other settings than the standard ones, and over a dictionary that others change.
 
 use crate::samples::{after, calls, ce_shi, ends_with, over_five, settings, typed};
-use chew_editor::Settings;
 use chew_plain::Call;
+use chew_settings::Settings;
 use std::test::Fail;
 
 #[test]

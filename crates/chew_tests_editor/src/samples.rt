@@ -7,11 +7,11 @@ ghost use Rattle.chew_spec_text.specs.KeyStroke.{is_key_stroke};
 ghost use Rattle.chew_script.specs.Keys.{keys_of};
 
 use crate::alone::Alone;
-use chew_editor::Settings;
 use chew_layouts::Kind;
 use chew_plain::{Plain, RowMap};
 use chew_samples::{CE, SHI, five, syllable};
 use chew_script::{KeyStroke, read_script};
+use chew_settings::Settings;
 use chew_syllable::{Key, NoMemory, Phrase};
 use std::alloc::Global;
 use std::process::Abort;

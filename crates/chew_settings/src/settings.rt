@@ -85,15 +85,15 @@ impl Settings {
         }
     }
 
-    /// Whether what is committed is learnt.
-    pub(crate) fn is_learning(&self) -> bool
+    /// Whether what is committed is learnt. It takes no memory.
+    pub fn is_learning(&self) -> bool
         ensures { result ≡ self.now.learn }
     {
         self.learn
     }
 
-    /// The keys that pick a candidate of the page.
-    pub(crate) fn selection(&self) -> &[u8]
+    /// The keys that pick a candidate of the page. It takes no memory.
+    pub fn selection(&self) -> &[u8]
         ensures { result.now ≡ self.now.selection }
     {
         &self.selection

@@ -1,0 +1,6 @@
+-- Each call has a byte less.
+use Rattle.std.proofs.Common.{length}
+use Rattle.chew_settings.proofs.values.+are_distinct.Given as goal
+
+abbrev pub decreases-are_distinct : goal.decreases-are_distinct
+decreases-are_distinct l = length l.bytes.now

@@ -1,0 +1,4 @@
+pub mod Computing
+pub mod OtherKinds
+mod Sizes
+pub mod WithinRanges

@@ -1,0 +1,7 @@
+//! Laws and known values of the definitions.
+
+mod kinds;
+mod known;
+mod order;
+mod ranges;
+mod values;

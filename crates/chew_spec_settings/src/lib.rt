@@ -1,0 +1,4 @@
+//! Definitions of the settings that a text gives.
+#![tactic(auto)]
+
+mod laws;
