@@ -1,3 +1,4 @@
+pub mod Answers
 pub mod Handled
 pub mod Journal
 pub mod Opened

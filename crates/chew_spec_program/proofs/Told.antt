@@ -6,7 +6,7 @@ use Rattle.chew_spec_outside.specs.Sink.{appended}
 use Rattle.chew_spec_program.specs.Context.{HandleAll}
 use Rattle.chew_spec_program.specs.Opening.{Inputs, IsOpening}
 use Rattle.chew_spec_program.specs.Output.{output}
-use Rattle.chew_spec_program.specs.Refusal.{Refusal, NoMemory, SourceFailed, WrongScript, WrongSystem, WrongWords, refusal_status}
+use Rattle.chew_spec_program.specs.Refusal.{Refusal, NoMemory, SourceFailed, WrongImage, WrongScript, WrongSettings, WrongSystem, WrongWords, refusal_status}
 use Rattle.chew_spec_program.specs.Run.{Ended, IsRefused, IsRun, IsTalk, IsWhole, Outside, are_handled, talk_status}
 use Rattle.chew_spec_program.specs.Writing.{Sunk, Writes}
 use Rattle.chew_spec_program.proofs.Writings.{writes-taken}
@@ -23,15 +23,17 @@ ten-told false false e = (refl, refl)
 
 refusal-zero : (refusal : Refusal) → refusal_status refusal ≡ 0 → ⊥
 refusal-zero WrongWords e = omega arith
+refusal-zero (WrongSettings fault) e = omega arith
 refusal-zero (WrongSystem fault) e = omega arith
 refusal-zero (WrongScript fault) e = omega arith
+refusal-zero (WrongImage place) e = omega arith
 refusal-zero SourceFailed e = omega arith
 refusal-zero NoMemory e = omega arith
 
 all-taken : (sink : Sunk) (text : List ℕ) (failed : Bool) → failed ≡ false → Writes sink text failed → sink.now ≡ appended sink.before text
 all-taken sink text failed e writes = writes-taken sink text (subst (Writes sink text) e writes)
 
-whole-by : (words : List (List ℕ)) (outside : Outside) (ended : Ended) (opened : Result Inputs Refusal) → IsOpening words outside.system outside.script opened
+whole-by : (words : List (List ℕ)) (outside : Outside) (ended : Ended) (opened : Result Inputs Refusal) → IsOpening words outside.settings outside.system outside.script opened
     → MatchResult opened (λ inputs. IsTalk inputs outside.sink ended) (λ refusal. IsRefused refusal outside.sink ended) → ended.status ≡ 0 → IsWhole words outside ended
 whole-by words outside ended (Err refusal) opening refused e = absurd (refusal-zero refusal (sym (ap (λ (d : Ended). d.status) refused.ends) ∙ e))
 whole-by words outside ended (Ok inputs) opening talk e =

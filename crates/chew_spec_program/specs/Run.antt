@@ -11,8 +11,9 @@ use Rattle.chew_spec_program.specs.Reading.{Watched}
 use Rattle.chew_spec_program.specs.Refusal.{Refusal, refusal_line, refusal_status}
 use Rattle.chew_spec_program.specs.Writing.{Sunk, Writes}
 
--- what was seen outside over a run: its two sources, and its sink
+-- what was seen outside over a run: its three sources, and its sink
 pub record Outside : Type 0 where
+  pub settings : Watched
   pub system : Watched
   pub script : Watched
   pub sink : Sunk
@@ -52,13 +53,13 @@ pub record IsTalk (inputs : Inputs) (sink : Sunk) (ended : Ended) : Type 0 where
 -- a run of the program with these words
 pub record IsRun (words : List (List ℕ)) (outside : Outside) (ended : Ended) : Type 0 where
   pub opened : Result Inputs Refusal
-  pub opening : IsOpening words outside.system outside.script opened
+  pub opening : IsOpening words outside.settings outside.system outside.script opened
   pub ends : MatchResult opened (λ inputs. IsTalk inputs outside.sink ended) (λ refusal. IsRefused refusal outside.sink ended)
 
 -- a run that did all: all keys were handled, and the sink took all their lines
 pub record IsWhole (words : List (List ℕ)) (outside : Outside) (ended : Ended) : Type 0 where
   pub inputs : Inputs
-  pub opening : IsOpening words outside.system outside.script (Ok inputs)
+  pub opening : IsOpening words outside.settings outside.system outside.script (Ok inputs)
   pub lines : List (List Line)
   pub contexts : HandleAll inputs.basis ended.journal 1 inputs.script.contexts (map length inputs.script.contexts) lines
   pub taken : outside.sink.now ≡ appended outside.sink.before (output lines)

@@ -6,6 +6,7 @@ use Rattle.chew_spec_dictionary.specs.History.{Entry}
 use Rattle.chew_spec_text.specs.KeyStroke.{KeyStroke, Char, Home, Down}
 use Rattle.chew_spec_text.specs.Line.{Line, Quiet}
 use Rattle.chew_spec_text.specs.Sample.{bytes_of}
+use Rattle.chew_spec_editor.specs.Settings.{standard_settings}
 use Rattle.chew_spec_program.specs.Context.{Basis}
 use Rattle.chew_spec_program.specs.Opening.{basis_of}
 
@@ -13,9 +14,13 @@ use Rattle.chew_spec_program.specs.Opening.{basis_of}
 abbrev pub run_words : List (List ℕ)
 run_words = codes "run" ∷ (codes "s" ∷ (codes "k" ∷ (codes "f" ∷ [])))
 
+-- and those of a run that names settings
+abbrev pub words_with_settings : List (List ℕ)
+words_with_settings = run_words ++ codes "t" ∷ []
+
 -- what a run over the five rows stands on
 abbrev pub five_basis : Basis
-five_basis = basis_of five_rows
+five_basis = basis_of standard_settings five_rows
 
 -- a quiet line with this pre-edit text, column, and text that the layout holds
 abbrev pub plain_line : List ℕ → ℕ → List ℕ → Line

@@ -39,9 +39,10 @@ before_enter = bytes_of "context 1\n\t0\tㄘ\t\t\t\n\t0\tㄘㄜ\t\t\t\n策\t2\t\
 abbrev pub five_output : List ℕ
 five_output = bytes_of "context 1\n\t0\tㄘ\t\t\t\n\t0\tㄘㄜ\t\t\t\n策\t2\t\t\t\t\n策\t2\tㄕ\t\t\t\n測試\t4\t\t\t\t\n\t0\t\t測試\t\t\n"
 
--- both sources were read out, and the sink took this
+-- the system and the script were read out, no settings were read, and the sink took this
 abbrev pub five_outside : List ℕ → Outside
 five_outside taken = record {
+  settings = watched (Some []) (Some []) 0 0;
   system = watched (Some five_text) (Some []) 0 0;
   script = watched (Some keys_text) (Some []) 0 0;
   sink = sunk (Some []) (Some taken) 0 0;

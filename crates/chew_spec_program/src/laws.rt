@@ -1,5 +1,6 @@
 //! Laws and known values of the definitions.
 
+mod answers;
 mod command;
 mod context;
 mod journal;

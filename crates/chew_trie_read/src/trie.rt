@@ -4,6 +4,7 @@ ghost use Rattle.chew_spec_syllable.specs.Row.{is_row};
 ghost use Rattle.chew_spec_dictionary.specs.Dictionary.{is_map};
 ghost use Rattle.chew_spec_dictionary.specs.System.{rows_of};
 ghost use Rattle.chew_spec_image.specs.Image.{image};
+ghost use Rattle.chew_spec_image.specs.NodeKeys.{node_keys};
 ghost use Rattle.chew_spec_image.specs.Reading.{image_place, rows_in};
 ghost use Rattle.chew_trie_read.specs.Left.{lent};
 
@@ -66,6 +67,13 @@ impl Trie {
         ensures few { result ≤ 250_000 }
     {
         self.image().rows()
+    }
+
+    /// How many nodes its image has: one for each prefix of a key, the empty one too.
+    pub fn nodes(&self) -> u32
+        ensures { result ≡ length (node_keys self.now) }
+    {
+        self.image().nodes()
     }
 
     /// The rows of a key, in the order of their phrases' bytes, lent.

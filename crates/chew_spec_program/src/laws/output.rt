@@ -4,8 +4,10 @@ ghost use Rattle.std.specs.Prelude.{◌≡◌, ℕ, ◌+◌, List, [], ◌∷◌
 ghost use Rattle.chew_spec_text.specs.DictionaryText as row;
 ghost use Rattle.chew_spec_text.specs.Line.{Line, Bell, line_text, with_line_feed};
 ghost use Rattle.chew_spec_text.specs.Script as script;
+ghost use Rattle.chew_spec_settings.specs.Fault as fault;
+ghost use Rattle.chew_spec_settings.specs.Name as setting;
 ghost use Rattle.chew_spec_program.specs.Output.{context_text, output, header, texts_from};
-ghost use Rattle.chew_spec_program.specs.Refusal.{refusal_line, refusal_status, WrongWords, WrongSystem, WrongScript, SourceFailed, NoMemory};
+ghost use Rattle.chew_spec_program.specs.Refusal.{refusal_line, refusal_status, WrongWords, WrongSettings, WrongSystem, WrongScript, WrongImage, SourceFailed, NoMemory};
 
 /// The header of the first context.
 pub fn known_header()
@@ -45,6 +47,28 @@ pub fn known_system_refusals()
     ensures twice { refusal_line (WrongSystem (record { line = 250; cause = row.Twice })) ≡ with_line_feed (codes "system 250 twice") }
     ensures rows { refusal_line (WrongSystem (record { line = 250_001; cause = row.Rows })) ≡ with_line_feed (codes "system 250001 rows") }
     ensures status { (line : ℕ) (cause : row.RowCause) → refusal_status (WrongSystem (record { line = line; cause = cause })) ≡ 4 }
+{}
+
+/// The line of an image's faulty place, and the status 4.
+pub fn known_image_refusals()
+    ensures first { refusal_line (WrongImage 0) ≡ with_line_feed (codes "system image 0") }
+    ensures later { refusal_line (WrongImage 93) ≡ with_line_feed (codes "system image 93") }
+    ensures status { (place : ℕ) → refusal_status (WrongImage place) ≡ 4 }
+{}
+
+/// The line of faults of settings, with the name of each setting and the word of each cause, and the status 3.
+pub fn known_settings_refusals()
+    ensures size { refusal_line (WrongSettings (record { key = setting.Other; cause = fault.Size })) ≡ with_line_feed (codes "settings ? size") }
+    ensures toml { refusal_line (WrongSettings (record { key = setting.Other; cause = fault.Toml })) ≡ with_line_feed (codes "settings ? toml") }
+    ensures unknown { refusal_line (WrongSettings (record { key = setting.Other; cause = fault.Unknown })) ≡ with_line_feed (codes "settings ? unknown") }
+    ensures layout { refusal_line (WrongSettings (record { key = setting.Layout; cause = fault.Kind })) ≡ with_line_feed (codes "settings layout kind") }
+    ensures buffer { refusal_line (WrongSettings (record { key = setting.Buffer; cause = fault.Range })) ≡ with_line_feed (codes "settings buffer range") }
+    ensures page { refusal_line (WrongSettings (record { key = setting.Page; cause = fault.Kind })) ≡ with_line_feed (codes "settings page kind") }
+    ensures selection { refusal_line (WrongSettings (record { key = setting.Selection; cause = fault.Range })) ≡ with_line_feed (codes "settings selection range") }
+    ensures escape_clears { refusal_line (WrongSettings (record { key = setting.EscapeClears; cause = fault.Kind })) ≡ with_line_feed (codes "settings escape_clears kind") }
+    ensures learn { refusal_line (WrongSettings (record { key = setting.Learn; cause = fault.Kind })) ≡ with_line_feed (codes "settings learn kind") }
+    ensures cap { refusal_line (WrongSettings (record { key = setting.Cap; cause = fault.Range })) ≡ with_line_feed (codes "settings cap range") }
+    ensures status { (key : setting.SettingName) (cause : fault.SettingCause) → refusal_status (WrongSettings (record { key = key; cause = cause })) ≡ 3 }
 {}
 
 /// The line of each fault of a script, and the status 5.

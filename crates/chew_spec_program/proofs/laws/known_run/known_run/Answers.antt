@@ -9,8 +9,9 @@ use Rattle.chew_spec_text.specs.Script.{script_of}
 use Rattle.unicode_width.proofs.Computing.{unicode_width}
 use Rattle.chew_spec_editor.specs.Talk.{talk_from}
 use Rattle.chew_spec_editor.proofs.Computing.{typing}
+use Rattle.chew_spec_program.specs.Command.{command_of}
 use Rattle.chew_spec_program.specs.Opening.{opening}
-use Rattle.std.proofs.Common.{[], ◌∷◌, ◌++◌, Some, Ok, drop, false, inl, length, lit≤, refl, true≢false}
+use Rattle.std.proofs.Common.{[], ◌∷◌, ◌++◌, None, Some, Ok, drop, false, inl, length, lit≤, refl, sym, true≢false}
 use Rattle.std.proofs.lemmas.List.Elements.{All-cons, All-nil}
 use Rattle.chew_spec_text.specs.Line.{Quiet}
 use Rattle.chew_spec_text.specs.Sample.{bytes_of}
@@ -20,12 +21,14 @@ use Rattle.chew_spec_program.specs.SampleRun.{five_inputs, five_journal, five_ou
 use Rattle.chew_spec_program.proofs.laws.known_run.known_run.Goals as goal
 
 pub returns : goal.returns
-unfolding opening dictionary_rows is_phrase is_utf8 syllable_reading script_of talk_from typing unicode_width encode_utf8
+unfolding command_of opening dictionary_rows is_phrase is_utf8 syllable_reading script_of talk_from typing unicode_width encode_utf8
 returns c = record {
   opened = Ok five_inputs;
   opening = inl (record {
+    settings_text = None;
     system_text = Some five_text;
     script_text = Some keys_text;
+    settings_read = record { read = λ e. absurd (true≢false (sym e)); unread = λ _. record { left = refl; faults = refl } };
     system_read = record {
       read = λ _. record { gave = record { fits = lit≤ tt; rest = refl; front = refl }; worked = refl; failed = λ none. absurd (cc none) };
       unread = λ e. absurd (true≢false e);

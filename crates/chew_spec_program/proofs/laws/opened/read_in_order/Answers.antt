@@ -1,5 +1,12 @@
-use Rattle.chew_spec_program.proofs.Opened.{nothing-read, script-unread}
+use Rattle.chew_spec_program.proofs.Opened.{nothing-read, read-behind, script-unread, system-unread}
 use Rattle.chew_spec_program.proofs.laws.opened.read_in_order.Goals as goal
 
 pub returns : goal.returns
-returns c = record { script = script-unread; words = nothing-read; read = λ words system script opened opens e. opens.system_read.read e }
+returns c = record {
+  system = system-unread;
+  script = script-unread;
+  words = nothing-read;
+  named = λ words settings system script opened opens e. opens.settings_read.read e;
+  unnamed = λ words settings system script opened opens e. opens.settings_read.unread e;
+  read = read-behind;
+}

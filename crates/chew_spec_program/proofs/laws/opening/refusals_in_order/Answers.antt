@@ -7,10 +7,11 @@ use Rattle.chew_spec_syllable.specs.Phrase.{is_phrase}
 use Rattle.chew_spec_syllable.specs.SyllableText.{syllable_reading}
 use Rattle.chew_spec_text.specs.DictionaryText.{dictionary_rows}
 use Rattle.chew_spec_text.specs.KeyStroke.{keys_in}
+use Rattle.chew_spec_program.specs.Command.{command_of}
 use Rattle.chew_spec_program.specs.Opening.{opening}
 use Rattle.chew_spec_text.specs.Script.{script_of}
 use Rattle.chew_spec_program.proofs.laws.opening.refusals_in_order.Goals as goal
 
 pub returns : goal.returns
-unfolding opening dictionary_rows is_phrase is_utf8 chars syllable_reading encode script_of keys_in digits
+unfolding command_of opening dictionary_rows is_phrase is_utf8 chars syllable_reading encode script_of keys_in digits
 returns c = record { words = refl; words_first = refl; failed_system = refl; system = refl; system_first = refl; script = refl; failed_script = refl }

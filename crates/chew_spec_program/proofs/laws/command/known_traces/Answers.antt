@@ -1,0 +1,8 @@
+-- Each value computes.
+use Rattle.std.proofs.Common.{refl}
+use Rattle.chew_spec_program.specs.Command.{command_of}
+use Rattle.chew_spec_program.proofs.laws.command.known_traces.Goals as goal
+
+pub returns : goal.returns
+unfolding command_of
+returns c = record { first = refl; second = refl; third = refl; fourth = refl; last = refl }
