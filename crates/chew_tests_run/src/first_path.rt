@@ -126,7 +126,15 @@ fn other_words_are_refused(rt: HostRuntime) -> Result<(), Fail> {
         let mut system = MemSource::of(Vec::new(alloc), 1, Fails::never(alloc));
         let mut script = MemSource::of(Vec::new(alloc), 1, Fails::never(alloc));
         let mut sink = MemSink::of(alloc, Fails::never(alloc));
-        let done = chewing(alloc, &words, &mut system, &mut script, &mut sink);
+        let mut settings = MemSource::of(Vec::new(alloc), 1, Fails::never(alloc));
+        let done = chewing(
+            alloc,
+            &words,
+            &mut settings,
+            &mut system,
+            &mut script,
+            &mut sink,
+        );
         ends(&rt, &(done, sink), 2, "words\n", &[]);
     }
     Ok(())

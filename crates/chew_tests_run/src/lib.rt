@@ -17,3 +17,5 @@ mod learning;
 mod limits;
 #[cfg(test)]
 mod runs;
+#[cfg(test)]
+mod settings;

@@ -15,7 +15,15 @@ fn the_program_tells_of_a_system_that_is_too_long(rt: HostRuntime) -> Result<(),
     let mut script = MemSource::of(b"1:hk4\n".to_vec(alloc)?, 4096, Fails::never(alloc));
     let mut sink = MemSink::of(alloc, Fails::never(alloc));
     let words = ["run", "system", "script", "folder"];
-    let done = chewing(alloc, &words, &mut system, &mut script, &mut sink);
+    let mut settings = MemSource::of(Vec::new(alloc), 1, Fails::never(alloc));
+    let done = chewing(
+        alloc,
+        &words,
+        &mut settings,
+        &mut system,
+        &mut script,
+        &mut sink,
+    );
     assert_eq!(rt; done.status, 4);
     assert_eq!(rt; sink.bytes(), b"system 0 size\n".as_slice());
     Ok(())

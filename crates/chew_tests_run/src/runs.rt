@@ -29,6 +29,9 @@ pub(crate) const TWO_SYLLABLES_CALLS: &str =
 /// The words of a run.
 const WORDS: [&str; 4] = ["run", "system", "script", "folder"];
 
+/// The words of a run that names settings.
+const SET_WORDS: [&str; 5] = ["run", "system", "script", "folder", "settings"];
+
 /// The calls that fail of the system, of the script and of the sink.
 #[derive(Drop)]
 pub(crate) struct Plan {
@@ -82,7 +85,41 @@ pub(crate) fn ran_with(
     let mut system = MemSource::of(system.as_bytes().to_vec(alloc)?, cut, plan.system);
     let mut script = MemSource::of(script.as_bytes().to_vec(alloc)?, cut, plan.script);
     let mut sink = MemSink::of(alloc, plan.sink);
-    let done = chewing(alloc, &WORDS, &mut system, &mut script, &mut sink);
+    let mut settings = MemSource::of(Vec::new(alloc), 1, Fails::never(alloc));
+    let done = chewing(
+        alloc,
+        &WORDS,
+        &mut settings,
+        &mut system,
+        &mut script,
+        &mut sink,
+    );
+    Ok((done, sink))
+}
+
+/// A run over these texts with these settings, and the sink that it wrote to.
+pub(crate) fn ran_set(
+    alloc: Global,
+    settings: &str,
+    system: &str,
+    script: &str,
+) -> Result<(Done, MemSink), AllocError> {
+    let mut settings = MemSource::of(
+        settings.as_bytes().to_vec(alloc)?,
+        4096,
+        Fails::never(alloc),
+    );
+    let mut system = MemSource::of(system.as_bytes().to_vec(alloc)?, 4096, Fails::never(alloc));
+    let mut script = MemSource::of(script.as_bytes().to_vec(alloc)?, 4096, Fails::never(alloc));
+    let mut sink = MemSink::of(alloc, Fails::never(alloc));
+    let done = chewing(
+        alloc,
+        &SET_WORDS,
+        &mut settings,
+        &mut system,
+        &mut script,
+        &mut sink,
+    );
     Ok((done, sink))
 }
 

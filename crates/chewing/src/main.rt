@@ -2,7 +2,7 @@
 #![tactic(auto)]
 
 use chew_outside::{Fails, MemSource, StdSink, StdSource};
-use chewing_cli::{chewing, is_run};
+use chewing_cli::{Command, build_call, check_call, chewing, command_of, dump_call};
 use std::alloc::{AllocError, Global};
 use std::env::Env;
 use std::fs::Files;
@@ -52,39 +52,153 @@ fn lent<'a>(alloc: Global, words: &'a [String]) -> Result<Vec<&'a str>, AllocErr
     words.iter().map(|word| word.as_str()).collect(alloc)
 }
 
-/// Runs the words over the files that they name, or over nothing where they are no `run`.
+/// Runs the command that the words are, over the files that they name.
 fn run<R: Files + Print + Eprint + AllocGlobal>(rt: &R, words: &[&str]) -> u8 {
-    match words {
-        [_, system, script, _] if is_run(words) => run_files(rt, words, system, script),
-        _ => refuse(rt, words),
+    match (command_of(words), words) {
+        (Ok(Command::Build { .. }), [_, from, to]) => build_file(rt, from, to),
+        (Ok(Command::Check { .. }), [_, from]) => check_file(rt, from),
+        (Ok(Command::Dump { .. }), [_, from]) => dump_file(rt, from),
+        _ => run_or_refuse(rt, words),
     }
 }
 
+/// Builds the image of a file in another, which is made anew once the first is opened.
+fn build_file<R: Files + Eprint + AllocGlobal>(rt: &R, from: &str, to: &str) -> u8 {
+    let Ok(from_file) = fs::open(rt, from) else {
+        return not_opened(rt, from);
+    };
+    let Ok(to_file) = fs::create(rt, to) else {
+        return not_opened(rt, to);
+    };
+    let mut source = StdSource::of(from_file);
+    let mut sink = StdSink::of(to_file);
+    build_call(rt.alloc(), &mut source, &mut sink)
+}
+
+fn check_file<R: Files + Print + Eprint + AllocGlobal>(rt: &R, from: &str) -> u8 {
+    let Ok(file) = fs::open(rt, from) else {
+        return not_opened(rt, from);
+    };
+    let mut source = StdSource::of(file);
+    let mut sink = StdSink::of(io::writer(rt));
+    check_call(rt.alloc(), &mut source, &mut sink)
+}
+
+fn dump_file<R: Files + Print + Eprint + AllocGlobal>(rt: &R, from: &str) -> u8 {
+    let Ok(file) = fs::open(rt, from) else {
+        return not_opened(rt, from);
+    };
+    let mut source = StdSource::of(file);
+    let mut sink = StdSink::of(io::writer(rt));
+    dump_call(rt.alloc(), &mut source, &mut sink)
+}
+
+/// Runs the words over the files that they name, or over nothing if they are no `run`.
+fn run_or_refuse<R: Files + Print + Eprint + AllocGlobal>(rt: &R, words: &[&str]) -> u8 {
+    match names_of(words) {
+        Some(names) => run_files(rt, words, &names),
+        None => refuse(rt, words),
+    }
+}
+
+/// The names of the files that a run reads.
+#[derive(Drop)]
+struct Names<'a> {
+    system: &'a str,
+    script: &'a str,
+    settings: Option<&'a str>,
+}
+
+/// The names in the words of a run without the trace.
+fn names_of<'a>(words: &[&'a str]) -> Option<Names<'a>> {
+    match command_of(words) {
+        Ok(
+            Command::Run {
+                trace: false,
+                system,
+                script,
+                settings,
+                ..
+            },
+        ) => Some(Names {
+            system: words.get(system)?,
+            script: words.get(script)?,
+            settings: match settings {
+                Some(place) => Some(words.get(place)?),
+                None => None,
+            },
+        }),
+        _ => None,
+    }
+}
+
+/// Opens the files in the order of their names, and runs the words over them.
 fn run_files<R: Files + Print + Eprint + AllocGlobal>(
     rt: &R,
     words: &[&str],
-    system: &str,
-    script: &str,
+    names: &Names<'_>,
 ) -> u8 {
-    let Ok(system_file) = fs::open(rt, system) else {
-        return not_opened(rt, system);
+    let Ok(system_file) = fs::open(rt, names.system) else {
+        return not_opened(rt, names.system);
     };
-    let Ok(script_file) = fs::open(rt, script) else {
-        return not_opened(rt, script);
+    let Ok(script_file) = fs::open(rt, names.script) else {
+        return not_opened(rt, names.script);
     };
     let mut system = StdSource::of(system_file);
     let mut script = StdSource::of(script_file);
     let mut sink = StdSink::of(io::writer(rt));
-    chewing(rt.alloc(), words, &mut system, &mut script, &mut sink).status
+    match names.settings {
+        Some(name) => {
+            let Ok(settings_file) = fs::open(rt, name) else {
+                return not_opened(rt, name);
+            };
+            let mut settings = StdSource::of(settings_file);
+            chewing(
+                rt.alloc(),
+                words,
+                &mut settings,
+                &mut system,
+                &mut script,
+                &mut sink,
+            )
+            .status
+        }
+        None => {
+            let mut settings = nothing(rt.alloc());
+            chewing(
+                rt.alloc(),
+                words,
+                &mut settings,
+                &mut system,
+                &mut script,
+                &mut sink,
+            )
+            .status
+        }
+    }
+}
+
+/// A source of no bytes.
+fn nothing(alloc: Global) -> MemSource {
+    MemSource::of(Vec::new(alloc), 1, Fails::never(alloc))
 }
 
 /// The call over empty sources, which refuses the words.
 fn refuse<R: Print + AllocGlobal>(rt: &R, words: &[&str]) -> u8 {
     let alloc = rt.alloc();
-    let mut system = MemSource::of(Vec::new(alloc), 1, Fails::never(alloc));
-    let mut script = MemSource::of(Vec::new(alloc), 1, Fails::never(alloc));
+    let mut settings = nothing(alloc);
+    let mut system = nothing(alloc);
+    let mut script = nothing(alloc);
     let mut sink = StdSink::of(io::writer(rt));
-    chewing(alloc, words, &mut system, &mut script, &mut sink).status
+    chewing(
+        alloc,
+        words,
+        &mut settings,
+        &mut system,
+        &mut script,
+        &mut sink,
+    )
+    .status
 }
 
 /// Tells that memory was wanting before the words were known, which makes no call.

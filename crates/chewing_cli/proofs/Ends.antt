@@ -42,12 +42,12 @@ talked inputs sink ended now ends failed stands strokes all writes is =
     subst (IsTalk inputs sink) (sym is) talk
 
 -- a run over inputs that have their forms
-pub run_opened : (words : List (List ℕ)) (outside : Outside) (ended : Ended) (inputs : Inputs) → IsOpening words outside.system outside.script (Ok inputs)
+pub run_opened : (words : List (List ℕ)) (outside : Outside) (ended : Ended) (inputs : Inputs) → IsOpening words outside.settings outside.system outside.script (Ok inputs)
     → Runs inputs outside.sink ended → IsRun words outside ended
 run_opened words outside ended inputs opening runs =
     ⊎_elim
     (λ (refused : IsRefused NoMemory outside.sink ended).
-    let run : IsRun words outside ended = record { opened = Err NoMemory; opening = inr (record { command = opened-command words outside.system outside.script inputs opening; refused = refl }); ends = refused } in run)
+    let run : IsRun words outside ended = record { opened = Err NoMemory; opening = inr (record { command = opened-command words outside.settings outside.system outside.script inputs opening; refused = refl }); ends = refused } in run)
     (λ (talk : IsTalk inputs outside.sink ended). let run : IsRun words outside ended = record { opened = Ok inputs; opening = opening; ends = talk } in run)
     runs
 

@@ -1,11 +1,13 @@
 -- What was read of an input and what it gives, and what the inputs of a run give.
-use Rattle.std.specs.Prelude.{◌≡◌, ◌⊎◌, ℕ, List, Option, Result, Ok, Err}
+use Rattle.std.specs.Prelude.{◌≡◌, ◌⊎◌, ℕ, Bool, List, Option, Result, Ok, Err}
 use Rattle.chew_spec_syllable.specs.Row.{Row, image_cmp}
 use Rattle.chew_spec_dictionary.specs.Order.{in_order}
 use Rattle.chew_spec_text.specs.DictionaryText.{RowCause, dictionary_rows}
 use Rattle.chew_spec_text.specs.Lines.{Fault}
-use Rattle.chew_spec_program.specs.Opening.{Inputs, value_or_refusal}
-use Rattle.chew_spec_program.specs.Reading.{IsRead, Watched}
+use Rattle.chew_spec_editor.specs.Settings.{Settings}
+use Rattle.chew_spec_settings.specs.SettingsText.{settings_limit}
+use Rattle.chew_spec_program.specs.Opening.{Inputs, settings_value, value_or_refusal}
+use Rattle.chew_spec_program.specs.Reading.{IsRead, IsReadWhere, Watched}
 use Rattle.chew_spec_program.specs.Refusal.{Refusal, NoMemory}
 use Rattle.chewing_cli.specs.Progress.{basis_over}
 use Rattle.chewing_cli.specs.declared.opening.Opened.{Opened}
@@ -21,7 +23,7 @@ system_rows text = in_image_order (dictionary_rows text)
 
 -- the inputs as the definitions see them
 abbrev pub inputs_of : Opened → Inputs
-inputs_of opened = record { basis = basis_over opened.system opened.plain; script = opened.script }
+inputs_of opened = record { basis = basis_over opened.settings opened.system opened.plain; script = opened.script }
 
 -- memory was wanting, or the outcome is this
 abbrev pub IsOrNoMemory : {X : Type 0} → Result X Refusal → Result X Refusal → Type 0
@@ -36,3 +38,13 @@ pub record Reads {X F : Type 0} (value : List ℕ → Result X F) (refusal : F �
 -- the same, or memory was wanting
 abbrev pub ReadsOrNoMemory : {X F : Type 0} → (List ℕ → Result X F) → (F → Refusal) → ℕ → Watched → Result X Refusal → Type 0
 ReadsOrNoMemory value refusal limit source outcome = (outcome ≡ Err NoMemory) ⊎ Reads value refusal limit source outcome
+
+-- settings were read of the source where they are named, and else they are the standard ones
+pub record Sets (named : Bool) (source : Watched) (outcome : Result Settings Refusal) : Type 0 where
+  pub text : Option (List ℕ)
+  pub read : IsReadWhere named source settings_limit text
+  pub gives : outcome ≡ settings_value named text
+
+-- the same, or memory was wanting
+abbrev pub SetsOrNoMemory : Bool → Watched → Result Settings Refusal → Type 0
+SetsOrNoMemory named source outcome = (outcome ≡ Err NoMemory) ⊎ Sets named source outcome

@@ -8,7 +8,7 @@ use Rattle.chew_spec_text.specs.KeyStroke.{KeyStroke}
 use Rattle.chew_spec_text.specs.Line.{Line, line_text}
 use Rattle.chew_spec_editor.specs.Editor.{Editor, empty_editor}
 use Rattle.chew_spec_editor.specs.Keys.{calls_asked, press}
-use Rattle.chew_spec_editor.specs.Settings.{Settings, standard_settings}
+use Rattle.chew_spec_editor.specs.Settings.{Settings}
 use Rattle.chew_spec_editor.specs.Talk.{talk_from, turn_of}
 use Rattle.chew_spec_program.specs.Context.{Basis, HandleAll, Handles, IsOfContext}
 
@@ -23,9 +23,9 @@ pub record ContextEnd : Type 0 where
   pub handled : ℕ
   pub text : List ℕ
 
--- what a run stands on that begins with this dictionary
-abbrev pub basis_over : List Row → Point → Basis
-basis_over system start = record { system = system; settings = standard_settings; start = start }
+-- what a run with these settings stands on that begins with this dictionary
+abbrev pub basis_over : Settings → List Row → Point → Basis
+basis_over settings system start = record { system = system; settings = settings; start = start }
 
 -- the calls as entries of this number
 abbrev pub entries_by : ℕ → List Call → List Entry

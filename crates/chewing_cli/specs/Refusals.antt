@@ -7,13 +7,17 @@ use Rattle.chew_rows.specs.Faults as row
 use Rattle.chew_rows.specs.declared.cause.RowsFault.{RowsFault}
 use Rattle.chew_rows.specs.declared.cause.RowsFault.TheVariants as rows
 use Rattle.chew_script.specs.Faults as script
+use Rattle.chew_settings.specs.Faults as setting
+use Rattle.chew_settings.specs.declared.fault.SettingsFault.{SettingsFault}
+use Rattle.chew_settings.specs.declared.fault.SettingsFault.TheVariants as set
 use Rattle.chew_script.specs.declared.fault.ScriptFault.{ScriptFault}
 use Rattle.chew_script.specs.declared.fault.ScriptFault.TheVariants as said
 use Rattle.chewing_cli.specs.declared.refusal.Refusal.{Refusal}
-use Rattle.chewing_cli.specs.declared.refusal.Refusal.TheVariants.{WrongWords, WrongSystem, WrongScript, SourceFailed, NoMemory}
+use Rattle.chewing_cli.specs.declared.refusal.Refusal.TheVariants.{WrongWords, WrongSettings, WrongSystem, WrongScript, SourceFailed, NoMemory}
 
 abbrev pub kind_of : Refusal → spec.Refusal
 kind_of WrongWords = spec.WrongWords
+kind_of (WrongSettings key cause) = spec.WrongSettings (record { key = setting.name_of key; cause = setting.cause_of cause })
 kind_of (WrongSystem line cause) = spec.WrongSystem (record { line = line; cause = row.cause_of cause })
 kind_of (WrongScript line cause) = spec.WrongScript (record { line = line; cause = script.cause_of cause })
 kind_of SourceFailed = spec.SourceFailed
@@ -23,6 +27,10 @@ kind_of NoMemory = spec.NoMemory
 abbrev pub read_refusal : ReadFault → spec.Refusal
 read_refusal read.Failed = spec.SourceFailed
 read_refusal read.NoMemory = spec.NoMemory
+
+abbrev pub settings_refusal : SettingsFault → spec.Refusal
+settings_refusal (set.Bad key cause) = spec.WrongSettings (record { key = setting.name_of key; cause = setting.cause_of cause })
+settings_refusal set.NoMemory = spec.NoMemory
 
 abbrev pub system_refusal : RowsFault → spec.Refusal
 system_refusal (rows.Bad line cause) = spec.WrongSystem (record { line = line; cause = row.cause_of cause })

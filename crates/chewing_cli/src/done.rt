@@ -4,7 +4,7 @@ use chew_plain::Entry;
 /// How a run ended.
 #[derive(Debug, Drop)]
 pub struct Done {
-    /// The exit status: 0, 2, 4, 5, 7, 8 or 10.
+    /// The exit status: 0, 2, 3, 4, 5, 7, 8 or 10.
     pub status: u8,
     /// The calls of the dictionary that were made, in order.
     pub journal: Vec<Entry>,

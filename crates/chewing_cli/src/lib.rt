@@ -2,7 +2,6 @@
 //! writes the lines of the script's keys.
 #![tactic(auto)]
 
-mod command;
 mod context;
 mod done;
 mod keying;
@@ -11,8 +10,9 @@ mod program;
 mod refusal;
 mod run;
 mod sending;
+mod words;
 mod work;
 
-pub use command::is_run;
+pub use chew_commands::{Command, Words, build_call, check_call, command_of, dump_call};
 pub use done::Done;
 pub use program::chewing;

@@ -1,14 +1,17 @@
 ghost use Rattle.std.specs.Prelude.{◌≡◌, ◌≤◌, length};
 ghost use Rattle.chew_spec_text.specs.Line.{with_line_feed};
-ghost use Rattle.chew_spec_program.specs.Refusal.{fault_line, refusal_line, refusal_status, row_cause_word, script_cause_word};
+ghost use Rattle.chew_spec_program.specs.Refusal.{fault_line, refusal_line, refusal_status, row_cause_word, script_cause_word, setting_cause_word, setting_line};
 ghost use Rattle.chew_rows.specs.Faults as row;
 ghost use Rattle.chew_script.specs.Faults as script;
-ghost use Rattle.chewing_cli.specs.Refusals.{kind_of, read_refusal, script_refusal, system_refusal};
+ghost use Rattle.chew_settings.specs.Faults as setting;
+ghost use Rattle.chew_spec_settings.specs.Name.{setting_word};
+ghost use Rattle.chewing_cli.specs.Refusals.{kind_of, read_refusal, script_refusal, settings_refusal, system_refusal};
 
 use arrayvec::ArrayString;
 use chew_outside::ReadFault;
 use chew_rows::{RowCause, RowsFault};
 use chew_script::{ScriptCause, ScriptFault};
+use chew_settings::{SettingCause, SettingName, SettingsFault};
 use itoa::Buffer;
 
 /// Why a run is refused before its first key.
@@ -16,10 +19,21 @@ use itoa::Buffer;
 pub(crate) enum Refusal {
     /// The words have no form of a command.
     WrongWords,
+    /// The settings have a fault at this one.
+    WrongSettings {
+        key: SettingName,
+        cause: SettingCause,
+    },
     /// The system has a fault in this line.
-    WrongSystem { line: u32, cause: RowCause },
+    WrongSystem {
+        line: u32,
+        cause: RowCause,
+    },
     /// The script has a fault in this line.
-    WrongScript { line: u32, cause: ScriptCause },
+    WrongScript {
+        line: u32,
+        cause: ScriptCause,
+    },
     /// A source failed.
     SourceFailed,
     /// Memory was wanting.
@@ -34,6 +48,16 @@ impl Refusal {
         match fault {
             ReadFault::Failed => Refusal::SourceFailed,
             ReadFault::NoMemory => Refusal::NoMemory,
+        }
+    }
+
+    /// Why a settings text refuses the run.
+    pub(crate) fn of_settings(fault: SettingsFault) -> Refusal
+        ensures { kind_of result ≡ settings_refusal fault }
+    {
+        match fault {
+            SettingsFault::Bad { key, cause } => Refusal::WrongSettings { key, cause },
+            SettingsFault::NoMemory => Refusal::NoMemory,
         }
     }
 
@@ -63,6 +87,7 @@ impl Refusal {
     {
         match self {
             Refusal::WrongWords => 2,
+            Refusal::WrongSettings { .. } => 3,
             Refusal::WrongSystem { .. } => 4,
             Refusal::WrongScript { .. } => 5,
             Refusal::SourceFailed => 7,
@@ -76,6 +101,7 @@ impl Refusal {
     {
         match self {
             Refusal::WrongWords => word_line("words"),
+            Refusal::WrongSettings { key, cause } => setting_line(key, setting_cause_word(cause)),
             Refusal::WrongSystem { line, cause } => fault_line("system", line, row_word(cause)),
             Refusal::WrongScript { line, cause } => fault_line("script", line, script_word(cause)),
             Refusal::SourceFailed => word_line("source"),
@@ -110,6 +136,35 @@ fn fault_line(input: &str, number: u32, word: &str) -> ArrayString<32>
     line.push_str(word);
     line.push_str("\n");
     line
+}
+
+/// The name of a setting, and the word of a cause.
+fn setting_line(key: SettingName, word: &str) -> ArrayString<32>
+    requires { length word.now ≤ 7 }
+    ensures { result.bytes ≡ setting_line (setting_word (setting.name_of key)) word.now }
+{
+    let name = key.word();
+    let mut line = ArrayString::new();
+    line.push_str("settings ");
+    line.push_str(name);
+    line.push_str(" ");
+    line.push_str(word);
+    line.push_str("\n");
+    line
+}
+
+/// The word of a fault of settings.
+fn setting_cause_word(cause: SettingCause) -> &'static str
+    ensures word { result.now ≡ setting_cause_word (setting.cause_of cause) }
+    ensures short { length result.now ≤ 7 }
+{
+    match cause {
+        SettingCause::Size => "size",
+        SettingCause::Toml => "toml",
+        SettingCause::Unknown => "unknown",
+        SettingCause::Kind => "kind",
+        SettingCause::Range => "range",
+    }
 }
 
 /// The word of a fault of a dictionary's text.

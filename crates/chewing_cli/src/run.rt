@@ -1,6 +1,7 @@
 ghost use Rattle.std.specs.Prelude.{◌≡◌, ◌≤◌, All, IfOk, IsTrue, [], length, map, vec_capacity};
 ghost use Rattle.std.specs.List.{list_all};
 ghost use Rattle.chew_spec_syllable.specs.Row.{is_row};
+ghost use Rattle.chew_spec_editor.specs.Invariant.{is_settings};
 ghost use Rattle.chew_spec_text.specs.KeyStroke.{is_key_stroke};
 ghost use Rattle.chew_spec_program.specs.Run.{are_handled, talk_status};
 ghost use Rattle.chew_spec_program.specs.Writing.{sunk};
@@ -20,6 +21,7 @@ use arrayvec::ArrayVec;
 use chew_outside::Sink;
 use chew_plain::RowMap;
 use chew_script::KeyStroke;
+use chew_settings::Settings;
 use chew_syllable::NoMemory;
 use std::alloc::Global;
 
@@ -28,11 +30,13 @@ pub(crate) fn run<O: Sink>(alloc: Global, opened: Opened, sink: &mut O) -> Done
     requires few_contexts { length opened.script.contexts ≤ 16 }
     requires few_keys { All (λ keys. length keys ≤ 65_536) opened.script.contexts }
     requires keys { IsTrue (list_all (list_all is_key_stroke) opened.script.contexts) }
+    requires settings { IsTrue (is_settings opened.settings) }
     requires rows { IsTrue (list_all is_row opened.system) }
     requires pairs { IsTrue (list_all is_row opened.plain.dictionary.pairs) }
     ensures { Runs (inputs_of opened) (sunk (O.taken sink.old) (O.taken sink.new) (O.faults sink.old) (O.faults sink.new)) (ended_of result) }
 {
     let Opened {
+        settings,
         system,
         script,
         plain,
@@ -43,7 +47,7 @@ pub(crate) fn run<O: Sink>(alloc: Global, opened: Opened, sink: &mut O) -> Done
         Err(NoMemory) => return refuse(alloc, Refusal::NoMemory, sink),
     };
     let mut work = Work::new(alloc, plain);
-    run_contexts(alloc, &system, &mut work, contexts, &mut ends);
+    run_contexts(alloc, &settings, &system, &mut work, contexts, &mut ends);
     let failed = send_contexts(sink, 1, ends.as_slice()).is_err();
     Done {
         status: status_of(failed, are_handled(contexts, ends.as_slice())),
@@ -65,11 +69,13 @@ fn room_for(alloc: Global, contexts: usize) -> Result<Vec<ContextEnd>, NoMemory>
 /// Runs the contexts one after another, numbered from 1, each until memory is refused to it.
 fn run_contexts(
     alloc: Global,
+    settings: &Settings,
     system: &RowMap,
     work: &mut Work,
     contexts: &[Vec<KeyStroke>],
     ends: &mut Vec<ContextEnd>,
 )
+    requires settings { IsTrue (is_settings settings.now) }
     requires few_contexts { length contexts.now ≤ 16 }
     requires few_keys { All (λ keys. length keys ≤ 65_536) (lists_of contexts.now) }
     requires keys { IsTrue (list_all (list_all is_key_stroke) (lists_of contexts.now)) }
@@ -78,13 +84,13 @@ fn run_contexts(
     requires none { ends.old.items ≡ [] }
     requires room { length contexts.now ≤ vec_capacity ends.old }
     requires begins { work.old ≡ record { journal = []; point = work.old.point; text = [] } }
-    ensures all { RanAll (basis_over system.now work.old.point) (lists_of contexts.now) work.new ends.new.items }
+    ensures all { RanAll (basis_over settings.now system.now work.old.point) (lists_of contexts.now) work.new ends.new.items }
     ensures each { length ends.new.items ≡ length contexts.now }
 {
     let mut who = 0;
     for keys in contexts {
         who += 1;
-        ends.push_reserved(run_context(alloc, system, work, who, keys.as_slice()));
+        ends.push_reserved(run_context(alloc, settings, system, work, who, keys.as_slice()));
     }
 }
 

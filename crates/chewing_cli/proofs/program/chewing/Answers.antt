@@ -12,18 +12,22 @@ use Rattle.chewing_cli.proofs.Ends.{run_opened}
 use Rattle.chewing_cli.proofs.program.chewing.Goals as goal
 
 pub run-requires-clause-rows : goal.run-requires-clause-rows
-run-requires-clause-rows g c = (opened-stands (map (λ word. word.now) c.args.words.now) _ _ (inputs_of c.in-Ok.opened) c.in-Ok.ensures.opens).rows
+run-requires-clause-rows g c = (opened-stands (map (λ word. word.now) c.args.words.now) _ _ _ (inputs_of c.in-Ok.opened) c.in-Ok.ensures.opens).rows
 
 pub run-requires-clause-keys : goal.run-requires-clause-keys
-run-requires-clause-keys g c = (opened-stands (map (λ word. word.now) c.args.words.now) _ _ (inputs_of c.in-Ok.opened) c.in-Ok.ensures.opens).keys
+run-requires-clause-keys g c = (opened-stands (map (λ word. word.now) c.args.words.now) _ _ _ (inputs_of c.in-Ok.opened) c.in-Ok.ensures.opens).keys
+
+pub run-requires-clause-settings : goal.run-requires-clause-settings
+run-requires-clause-settings g c = (opened-stands (map (λ word. word.now) c.args.words.now) _ _ _ (inputs_of c.in-Ok.opened) c.in-Ok.ensures.opens).settings
 
 pub run-requires-clause-pairs : goal.run-requires-clause-pairs
-run-requires-clause-pairs g c = (opened-stands (map (λ word. word.now) c.args.words.now) _ _ (inputs_of c.in-Ok.opened) c.in-Ok.ensures.opens).pairs
+run-requires-clause-pairs g c = (opened-stands (map (λ word. word.now) c.args.words.now) _ _ _ (inputs_of c.in-Ok.opened) c.in-Ok.ensures.opens).pairs
 
 pub returns-in-Ok : goal.returns-in-Ok
 returns-in-Ok g c =
     let words : List (List ℕ) = map (λ word. word.now) c.args.words.now in
     let outside : Outside = record {
+      settings = watched (g.S.Source.left c.args.settings.now) (g.S.Source.left c.open.new.settings) (g.S.Source.faults c.args.settings.now) (g.S.Source.faults c.open.new.settings);
       system = watched (g.Y.Source.left c.args.system.now) (g.Y.Source.left c.open.new.system) (g.Y.Source.faults c.args.system.now) (g.Y.Source.faults c.open.new.system);
       script = watched (g.I.Source.left c.args.script.now) (g.I.Source.left c.open.new.script) (g.I.Source.faults c.args.script.now) (g.I.Source.faults c.open.new.script);
       sink = sunk (g.O.Sink.taken c.args.sink.now) (g.O.Sink.taken c.run.new.sink) (g.O.Sink.faults c.args.sink.now) (g.O.Sink.faults c.run.new.sink);
@@ -41,6 +45,7 @@ pub returns-in-Err : goal.returns-in-Err
 returns-in-Err g c =
     let words : List (List ℕ) = map (λ word. word.now) c.args.words.now in
     let outside : Outside = record {
+      settings = watched (g.S.Source.left c.args.settings.now) (g.S.Source.left c.open.new.settings) (g.S.Source.faults c.args.settings.now) (g.S.Source.faults c.open.new.settings);
       system = watched (g.Y.Source.left c.args.system.now) (g.Y.Source.left c.open.new.system) (g.Y.Source.faults c.args.system.now) (g.Y.Source.faults c.open.new.system);
       script = watched (g.I.Source.left c.args.script.now) (g.I.Source.left c.open.new.script) (g.I.Source.faults c.args.script.now) (g.I.Source.faults c.open.new.script);
       sink = sunk (g.O.Sink.taken c.args.sink.now) (g.O.Sink.taken c.refuse.new.sink) (g.O.Sink.faults c.args.sink.now) (g.O.Sink.faults c.refuse.new.sink);

@@ -13,7 +13,7 @@ use Rattle.chewing_cli.proofs.run.run_contexts.Goals as goal
 
 pub loop-keys-init : goal.loop-keys-init
 loop-keys-init c =
-    let basis : Basis = basis_over c.args.system.now c.args.work.now.point in
+    let basis : Basis = basis_over c.args.settings.now c.args.system.now c.args.work.now.point in
     record {
       ran = subst (RanAll basis [] c.args.work.now) (sym c.requires.none) (ran_all_none basis c.args.work.now c.requires.begins);
       counted = refl;
@@ -40,15 +40,15 @@ run_context-requires-clause-keys c =
 
 pub run_context-requires-clause-pairs : goal.run_context-requires-clause-pairs
 run_context-requires-clause-pairs c =
-    rows-ran-first (basis_over c.args.system.now c.args.work.now.point) c.loop-keys.keys-index (lists_of c.args.contexts.now) c.loop-keys.work c.loop-keys.ends.items
-    (record { rows = c.requires.rows; settings = refl; pairs = c.requires.pairs }) c.requires.keys c.loop-keys.invariant.ran
+    rows-ran-first (basis_over c.args.settings.now c.args.system.now c.args.work.now.point) c.loop-keys.keys-index (lists_of c.args.contexts.now) c.loop-keys.work c.loop-keys.ends.items
+    (record { rows = c.requires.rows; settings = c.requires.settings; pairs = c.requires.pairs }) c.requires.keys c.loop-keys.invariant.ran
 
 pub run_context-requires-clause-silent : goal.run_context-requires-clause-silent
 run_context-requires-clause-silent c = c.loop-keys.invariant.ran.silent
 
 pub loop-keys-preserved : goal.loop-keys-preserved
 loop-keys-preserved c =
-    let basis : Basis = basis_over c.args.system.now c.args.work.now.point in
+    let basis : Basis = basis_over c.args.settings.now c.args.system.now c.args.work.now.point in
     record {
       ran = subst (RanAll basis _ c.run_context.new.work) (sym c.push_reserved.ensures.items)
           (ran_next basis (λ keys. keys_of keys.items) c.args.contexts.now c.loop-keys.keys-index c.loop-keys.work c.loop-keys.ends.items
@@ -63,5 +63,5 @@ loop-keys-preserved c =
 
 pub returns-clause-all : goal.returns-clause-all
 returns-clause-all c =
-    ran_ends (basis_over c.args.system.now c.args.work.now.point) (λ keys. keys_of keys.items) c.args.contexts.now c.loop-keys.keys-index c.loop-keys.work c.loop-keys.ends.items
+    ran_ends (basis_over c.args.settings.now c.args.system.now c.args.work.now.point) (λ keys. keys_of keys.items) c.args.contexts.now c.loop-keys.keys-index c.loop-keys.work c.loop-keys.ends.items
     c.loop-keys.who (omega arith) c.loop-keys.invariant.ran
