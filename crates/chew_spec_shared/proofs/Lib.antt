@@ -1,0 +1,4 @@
+pub mod Asked
+pub mod Layered
+pub mod Needed
+pub mod Waiting

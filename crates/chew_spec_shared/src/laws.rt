@@ -1,0 +1,6 @@
+//! Laws and known values of the definitions.
+
+mod asked;
+mod known;
+mod layered;
+mod waiting;
