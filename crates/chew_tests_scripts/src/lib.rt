@@ -1,12 +1,10 @@
-//! Tests of scripts, of the lines of keys, and of the lines of a trace.
+//! Tests of scripts.
 #![tactic(auto)]
 
 #[cfg(test)]
-mod entries;
+mod generated;
 #[cfg(test)]
 mod limits;
-#[cfg(test)]
-mod output_lines;
 #[cfg(test)]
 mod script_faults;
 #[cfg(test)]
