@@ -1,4 +1,5 @@
 pub mod Adding
+pub mod Generated
 pub mod KeyLines
 pub mod KeyNames
 pub mod Lists

@@ -1,9 +1,10 @@
-//! The keys of a script, the text of a script, and the lines that are printed for keys and in a trace.
+//! The keys of a script, the text of a script, a generated one, and the lines that are printed for keys and in a trace.
 #![tactic(auto)]
 
 mod contexts;
 mod entry;
 mod fault;
+mod generator;
 mod keys;
 mod keystroke;
 mod limits;
@@ -18,6 +19,7 @@ mod text;
 pub use contexts::Contexts;
 pub use entry::{append_entry, print_entry};
 pub use fault::{ScriptCause, ScriptFault};
+pub use generator::generate;
 pub use keystroke::KeyStroke;
 pub use limits::{CONTEXTS_LIMIT, KEYS_LIMIT, ROUNDS_LIMIT, SCRIPT_LIMIT};
 pub use note::Note;

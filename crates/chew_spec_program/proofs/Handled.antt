@@ -10,7 +10,7 @@ use Rattle.chew_spec_editor.specs.Editor.{empty_editor}
 use Rattle.chew_spec_editor.specs.Talk.{Talk}
 use Rattle.chew_spec_editor.proofs.Talks.{few_lines}
 use Rattle.chew_spec_dictionary.specs.Growth.{IsFront}
-use Rattle.chew_spec_program.specs.Context.{Basis, HandleAll, Handles, calls_with_next, talk_in}
+use Rattle.chew_spec_session.specs.Context.{Basis, HandleAll, Handles, calls_with_next, talk_in}
 
 -- two lists of which each is a front of the other are the same
 none-behind : (one other : List Call) → length (one ++ other) ≤ length one → other ≡ []

@@ -22,7 +22,7 @@ use Rattle.chew_spec_editor.specs.Editor.{Editor}
 use Rattle.chew_spec_editor.specs.Invariant.{is_settings}
 use Rattle.chew_spec_editor.specs.Talk.{Talk}
 use Rattle.chew_spec_editor.proofs.Asked.{next_of, slice_get-left, slice_get-right, talk-asks, with_next}
-use Rattle.chew_spec_program.specs.Context.{Basis, HandleAll, Handles, IsOfContext, calls_with_next, next_calls, talk_in}
+use Rattle.chew_spec_session.specs.Context.{Basis, HandleAll, Handles, IsOfContext, calls_with_next, next_calls, talk_in}
 
 -- rows of the system and of the dictionary at the start, and settings in their ranges
 pub record StandsOnRows (basis : Basis) : Type 0 where

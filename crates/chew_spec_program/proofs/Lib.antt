@@ -1,10 +1,13 @@
 pub mod Answers
 pub mod Handled
 pub mod Journal
+pub mod MadeTalk
+pub mod Make
 pub mod Opened
 pub mod Outputs
 pub mod Readings
 pub mod Runs
 pub mod Told
 pub mod ToldRuns
+pub mod Typing
 pub mod Writings

@@ -3,7 +3,7 @@ use Rattle.std.specs.Prelude.{◌≡◌, ◌≢◌, ℕ, Bool, true, false, List
 use Rattle.std.proofs.Common.{refl, ap, sym, subst, ◌∙◌, arith, true≢false}
 use Rattle.std.proofs.lemmas.Slice.Eq.{bytes_eq-Decides}
 use Rattle.chew_spec_outside.specs.Sink.{appended}
-use Rattle.chew_spec_program.specs.Context.{HandleAll}
+use Rattle.chew_spec_session.specs.Context.{HandleAll}
 use Rattle.chew_spec_program.specs.Opening.{Inputs, IsOpening}
 use Rattle.chew_spec_program.specs.Output.{output}
 use Rattle.chew_spec_program.specs.Refusal.{Refusal, NoMemory, SourceFailed, WrongImage, WrongScript, WrongSettings, WrongSystem, WrongWords, refusal_status}

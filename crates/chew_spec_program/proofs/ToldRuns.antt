@@ -14,7 +14,7 @@ use Rattle.chew_spec_text.specs.Script.{Script, script_limit}
 use Rattle.chew_spec_editor.specs.Settings.{Settings}
 use Rattle.chew_spec_settings.specs.SettingsText.{settings_limit}
 use Rattle.chew_spec_program.specs.Command.{is_run_command}
-use Rattle.chew_spec_program.specs.Context.{Basis, HandleAll, talk_in}
+use Rattle.chew_spec_session.specs.Context.{Basis, HandleAll, talk_in}
 use Rattle.chew_spec_program.specs.Output.{output}
 use Rattle.chew_spec_program.specs.Opening.{Inputs, IsOpening, Opens, WantedMemory, inputs_of, names_settings, opening, script_value, settings_value, system_value}
 use Rattle.chew_spec_program.specs.Reading.{IsCalm, IsRead, Watched}

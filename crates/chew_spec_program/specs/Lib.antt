@@ -1,8 +1,8 @@
 pub mod Answer
 pub mod Build
 pub mod Command
-pub mod Context
 pub mod ImageRows
+pub mod Make
 pub mod Opening
 pub mod Output
 pub mod Reading

@@ -8,7 +8,7 @@ use Rattle.chew_spec_text.specs.Script.{Script, script_limit, script_of}
 use Rattle.chew_spec_editor.specs.Settings.{Settings, standard_settings}
 use Rattle.chew_spec_settings.specs.SettingsText.{settings_limit, settings_of}
 use Rattle.chew_spec_program.specs.Command.{Command, Run, command_of, is_run_command}
-use Rattle.chew_spec_program.specs.Context.{Basis}
+use Rattle.chew_spec_session.specs.Context.{Basis}
 use Rattle.chew_spec_program.specs.Reading.{IsReadWhere, Watched}
 use Rattle.chew_spec_program.specs.Refusal.{Refusal, NoMemory, SourceFailed, WrongScript, WrongSettings, WrongSystem, WrongWords}
 

@@ -4,7 +4,7 @@ use Rattle.chew_spec_outside.specs.Sink.{appended}
 use Rattle.chew_spec_dictionary.specs.History.{Entry, is_legal}
 use Rattle.chew_spec_text.specs.KeyStroke.{KeyStroke}
 use Rattle.chew_spec_text.specs.Line.{Line}
-use Rattle.chew_spec_program.specs.Context.{HandleAll, IsOfContext}
+use Rattle.chew_spec_session.specs.Context.{HandleAll, IsOfContext}
 use Rattle.chew_spec_program.specs.Opening.{Inputs, IsOpening}
 use Rattle.chew_spec_program.specs.Output.{output}
 use Rattle.chew_spec_program.specs.Reading.{Watched}

@@ -7,7 +7,7 @@ use Rattle.chew_spec_text.specs.KeyStroke.{KeyStroke, Char, Home, Down}
 use Rattle.chew_spec_text.specs.Line.{Line, Quiet}
 use Rattle.chew_spec_text.specs.Sample.{bytes_of}
 use Rattle.chew_spec_editor.specs.Settings.{standard_settings}
-use Rattle.chew_spec_program.specs.Context.{Basis}
+use Rattle.chew_spec_session.specs.Context.{Basis}
 use Rattle.chew_spec_program.specs.Opening.{basis_of}
 
 -- the words of a run

@@ -5,6 +5,7 @@ mod command;
 mod context;
 mod journal;
 mod known_run;
+mod make;
 mod opened;
 mod opening;
 mod output;

@@ -15,7 +15,7 @@ use Rattle.chew_spec_editor.specs.Alone.{point_after, replies_from}
 use Rattle.chew_spec_editor.specs.Answers.{AreAnswers}
 use Rattle.chew_spec_editor.specs.Pending.{Pending, calls_of}
 use Rattle.chew_spec_editor.proofs.Answered.{AreAnswers-alone, point-rows}
-use Rattle.chew_spec_program.specs.Context.{Basis}
+use Rattle.chew_spec_session.specs.Context.{Basis}
 use Rattle.chew_spec_program.proofs.Journal.{StandsOnRows, journal-legal}
 use Rattle.chewing_cli.specs.Progress.{ContextEnd, Progress, RanAll, entries_by, heard}
 

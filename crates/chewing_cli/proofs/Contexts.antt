@@ -11,7 +11,7 @@ use Rattle.chew_spec_dictionary.proofs.Histories.{after_joined, own_joined, repl
 use Rattle.chew_spec_editor.specs.Talk.{Talk, talk}
 use Rattle.chew_spec_text.specs.KeyStroke.{KeyStroke}
 use Rattle.chew_spec_text.specs.Line.{Line, line_text}
-use Rattle.chew_spec_program.specs.Context.{Basis, HandleAll, Handles, IsOfContext, calls_with_next, talk_in}
+use Rattle.chew_spec_session.specs.Context.{Basis, HandleAll, Handles, IsOfContext, calls_with_next, talk_in}
 use Rattle.chewing_cli.specs.Progress.{ContextEnd, Handled, IsFresh, Progress, Ran, RanAll, entries_by}
 use Rattle.chewing_cli.proofs.Talking.{no_replies}
 

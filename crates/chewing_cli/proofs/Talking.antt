@@ -16,7 +16,7 @@ use Rattle.chew_spec_editor.specs.Talk.{Talk, Turn, after_key, followed, handled
 use Rattle.chew_spec_editor.proofs.Talks as talks
 use Rattle.chew_spec_text.specs.KeyStroke.{KeyStroke}
 use Rattle.chew_spec_text.specs.Line.{Line, line_text}
-use Rattle.chew_spec_program.specs.Context.{Basis, Handles, calls_with_next, next_calls}
+use Rattle.chew_spec_session.specs.Context.{Basis, Handles, calls_with_next, next_calls}
 use Rattle.chewing_cli.specs.Progress.{Handled, IsFresh, Progress, Stops, Talks, Turns, asked, entries_by, heard, printed}
 use Rattle.chewing_cli.proofs.Calls.{asked_joined, asked_none, calls-entries, front-nil, heard_joined, length-heard, own-entries}
 

@@ -10,7 +10,7 @@ use Rattle.chew_spec_editor.specs.Editor.{Editor, empty_editor}
 use Rattle.chew_spec_editor.specs.Keys.{calls_asked, press}
 use Rattle.chew_spec_editor.specs.Settings.{Settings}
 use Rattle.chew_spec_editor.specs.Talk.{talk_from, turn_of}
-use Rattle.chew_spec_program.specs.Context.{Basis, HandleAll, Handles, IsOfContext}
+use Rattle.chew_spec_session.specs.Context.{Basis, HandleAll, Handles, IsOfContext}
 
 -- the calls that were made, the point of the dictionary, and the lines that the context that types has printed
 pub record Progress : Type 0 where

@@ -4,7 +4,7 @@ ghost use Rattle.std.specs.Prelude.{◌≡◌, ◌∷◌, ◌≤◌, ℕ, List, 
 ghost use Rattle.chew_spec_dictionary.specs.History.{Entry, calls_of};
 ghost use Rattle.chew_spec_text.specs.KeyStroke.{KeyStroke};
 ghost use Rattle.chew_spec_text.specs.Line.{Line};
-ghost use Rattle.chew_spec_program.specs.Context.{Basis, HandleAll, Handles, talk_in};
+ghost use Rattle.chew_spec_session.specs.Context.{Basis, HandleAll, Handles, talk_in};
 ghost use Rattle.chew_spec_program.specs.Sample.{five_basis, first_keys, first_lines, opening_journal, opening_keys, opening_lines, second_keys, second_lines, taught_journal, both_journal, long_journal, short_journal, swapped_journal};
 
 /// A context handles no more keys than it has, and where it handled all of them its calls are those of their talk.

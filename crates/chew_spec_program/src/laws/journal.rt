@@ -7,7 +7,7 @@ ghost use Rattle.chew_spec_dictionary.specs.History.{Entry, is_legal};
 ghost use Rattle.chew_spec_text.specs.KeyStroke.{KeyStroke, is_key_stroke};
 ghost use Rattle.chew_spec_text.specs.Line.{Line};
 ghost use Rattle.chew_spec_editor.specs.Invariant.{is_settings};
-ghost use Rattle.chew_spec_program.specs.Context.{Basis, HandleAll, IsOfContext};
+ghost use Rattle.chew_spec_session.specs.Context.{Basis, HandleAll, IsOfContext};
 
 /// The journal of a run is legal: each context made the calls of its talk alone, and those may be made. What a context hears
 /// decides what it learns, so this holds because each look-up was answered by a dictionary of rows.

@@ -6,7 +6,7 @@ use Rattle.chew_spec_dictionary.proofs.Found.{each_of_all}
 use Rattle.chew_spec_text.specs.KeyStroke.{is_key_stroke}
 use Rattle.chew_script.specs.Keys.{keys_of, lists_of}
 use Rattle.chewing_cli.specs.Progress.{Ran, RanAll, basis_over}
-use Rattle.chew_spec_program.specs.Context.{Basis}
+use Rattle.chew_spec_session.specs.Context.{Basis}
 use Rattle.chewing_cli.proofs.Answered.{rows-ran-first}
 use Rattle.chewing_cli.proofs.Contexts.{few_of, ran_all_none, ran_ends, ran_next}
 use Rattle.chewing_cli.proofs.run.run_contexts.Goals as goal

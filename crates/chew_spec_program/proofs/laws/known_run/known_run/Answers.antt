@@ -15,7 +15,7 @@ use Rattle.std.proofs.Common.{[], ◌∷◌, ◌++◌, None, Some, Ok, drop, fal
 use Rattle.std.proofs.lemmas.List.Elements.{All-cons, All-nil}
 use Rattle.chew_spec_text.specs.Line.{Quiet}
 use Rattle.chew_spec_text.specs.Sample.{bytes_of}
-use Rattle.chew_spec_program.specs.Context.{IsOfContext}
+use Rattle.chew_spec_session.specs.Context.{IsOfContext}
 use Rattle.chew_spec_program.specs.Sample.{first_lines, learn_by, look_by}
 use Rattle.chew_spec_program.specs.SampleRun.{five_inputs, five_journal, five_output, five_text, keys_text}
 use Rattle.chew_spec_program.proofs.laws.known_run.known_run.Goals as goal

@@ -14,7 +14,7 @@ use Rattle.std.specs.Prelude.{◌≡◌, ◌<◌, ◌++◌, ◌∷◌, [], ℕ, 
 use Rattle.std.proofs.Common.{ap, arith, refl, sym}
 use Rattle.chew_spec_dictionary.specs.FiveRows.{ce4}
 use Rattle.chew_spec_dictionary.specs.History.{Entry, calls_of}
-use Rattle.chew_spec_program.specs.Context.{talk_in}
+use Rattle.chew_spec_session.specs.Context.{talk_in}
 use Rattle.chew_spec_program.specs.Output.{output}
 use Rattle.chew_spec_program.specs.Run.{IsRun}
 use Rattle.chew_spec_program.specs.Sample.{five_basis, look_by, run_words}

@@ -1,0 +1,5 @@
+-- What is left to append.
+use Rattle.chew_script.proofs.generator.«+push_steps».Given as goal
+
+abbrev pub decreases-push_steps : goal.decreases-push_steps
+decreases-push_steps l = l.count

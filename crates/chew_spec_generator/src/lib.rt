@@ -1,0 +1,4 @@
+//! Definitions of the script that is generated for a number.
+#![tactic(auto)]
+
+mod laws;

@@ -1,0 +1,3 @@
+pub mod LastRounds
+pub mod KnownSessions
+pub mod Seqs
