@@ -1,17 +1,16 @@
 -- Legal layers with one call more.
-use Rattle.std.proofs.Common.{◌≡◌, ◌≢◌, ◌≤◌, ◌+◌, ℕ, arith, Bool, true, false, List, [], ◌∷◌, ◌++◌, length, cond, ◌&&◌, refl, ap, ap₂, sym, ◌∙◌, subst, Option, Some, None, is_some, option_map, unwrap_or, Result, Ok, Err, if◌then◌else◌, ◌==◌}
+use Rattle.std.proofs.Common.{◌≡◌, ◌≢◌, ◌+◌, ℕ, arith, Bool, true, false, List, [], ◌∷◌, ◌++◌, refl, ap, ap₂, sym, ◌∙◌, subst, Option, Some, None, is_some, option_map, unwrap_or, Result, Ok, Err, if◌then◌else◌, ◌==◌}
 use Rattle.std.specs.Prelude.{IfOk, OnOk, OnErr, slice_index_or}
 use Rattle.std.specs.List.{slice_get}
 use Rattle.std.specs.Option.{option_map_or}
 use Rattle.std.proofs.lemmas.Bool.{and_from, eq-eqb, true≢false}
 use Rattle.chew_spec_syllable.specs.Row.{Row}
-use Rattle.chew_spec_dictionary.specs.Call.{Call, Freeze, Frozen, Install, Reply}
+use Rattle.chew_spec_dictionary.specs.Call.{Call, Freeze, Frozen, Install}
 use Rattle.chew_spec_dictionary.specs.Dictionary.{Dictionary}
 use Rattle.chew_spec_dictionary.specs.History.{Entry, Point, after, answer, is_legal, is_legal_entry, is_user_call, start_of}
 use Rattle.chew_spec_dictionary.proofs.Histories.{after_joined, legal_joined}
 use Rattle.chew_spec_dictionary.proofs.Legal.{users-entries}
-use Rattle.chew_spec_layers.specs.Layers.{Layers, Waiting, frozen_by, frozen_marks, installed_by, newly_frozen, noted}
-use Rattle.chew_spec_layers.specs.Overlay.{overlay}
+use Rattle.chew_spec_layers.specs.Layers.{Layers, Waiting, frozen_by, installed_by, newly_frozen, noted}
 use Rattle.chew_spec_layers.specs.Standing.{StandForMap}
 use Rattle.chew_spec_layers.proofs.Steps.{waiting_number}
 use Rattle.chew_spec_cell.specs.Pass.{Cell, Pass, new_passes}

@@ -1,6 +1,6 @@
 -- What a turn makes of what a pass has seen.
-use Rattle.std.proofs.Common.{◌≡◌, ℕ, List, [], ◌∷◌, ◌++◌, refl, ap, ap₂, sym, ◌∙◌, subst, inl, inr, Result, Ok, Err}
-use Rattle.std.specs.Prelude.{IfOk, OnOk, OnErr}
+use Rattle.std.proofs.Common.{◌≡◌, ℕ, List, [], ◌∷◌, ◌++◌, ap, sym, ◌∙◌, subst, inl, inr, Result, Ok, Err}
+use Rattle.std.specs.Prelude.{OnOk, OnErr}
 use Rattle.chew_spec_dictionary.specs.Call.{Call, Reply}
 use Rattle.chew_spec_dictionary.specs.History.{Entry, after, answer, start_of}
 use Rattle.chew_spec_layers.specs.Layers.{Layers}

@@ -3,7 +3,7 @@
 ghost use Rattle.std.specs.Prelude.{◌≡◌, ◌≢◌, ◌≤◌, IfOk, IsTrue, OnErr, length};
 ghost use Rattle.chew_spec_syllable.specs.Row.{is_pair};
 ghost use Rattle.chew_spec_dictionary.specs.Call as calls;
-ghost use Rattle.chew_spec_dictionary.specs.History.{is_user_call};
+ghost use Rattle.chew_spec_dictionary.specs.History.{is_legal, is_user_call, start_of};
 ghost use Rattle.chew_spec_cell.specs.Seen.{HasSeen};
 ghost use Rattle.chew_spec_shared.specs.Asked.{Asked, IsOf};
 ghost use Rattle.chew_plain.specs.Call.{call_of, reply_of};
@@ -16,7 +16,8 @@ use std::sync::Wait;
 
 impl Shared {
     /// Makes a call of a context, which is a look, a learn, a forget or a hide, in a turn of its own. After `NoMemory` no entry
-    /// was made, and the pass comes back having seen at least as much.
+    /// was made, and the pass comes back having seen at least as much. Whatever is answered, the history that it has seen then is
+    /// legal.
     pub fn ask<R: Wait>(&self, rt: &R, pass: Pass, call: &Call) -> (Pass, Result<Reply, NoMemory>)
         requires ours { IsOf self.now pass }
         requires context { pass.who ≢ 0 }
@@ -25,10 +26,12 @@ impl Shared {
         ensures who { result.0.who ≡ pass.who }
         ensures ok { IfOk result.1 (λ reply. Asked pass (call_of call.now) (reply_of reply) result.0.seen) }
         ensures err { OnErr result.1 (HasSeen pass.who pass.seen result.0.seen) }
+        ensures legal { IsTrue (is_legal (start_of self.now.start) result.0.seen) }
     {
         let who = pass.who();
         let mut turn = self.cell.enter(rt, pass);
         let reply = turn.value.apply(who, call);
+        turn.value.keeps();
         (self.cell.leave(turn), reply)
     }
 
@@ -40,6 +43,7 @@ impl Shared {
         ensures who { result.0.who ≡ pass.who }
         ensures ok { IfOk result.1 (λ reply. Asked pass (calls.Look run.now) (reply_of reply) result.0.seen) }
         ensures err { OnErr result.1 (HasSeen pass.who pass.seen result.0.seen) }
+        ensures legal { IsTrue (is_legal (start_of self.now.start) result.0.seen) }
     {
         let _codes = run.list();
         self.ask(rt, pass, &Call::Look(run.copy()))
@@ -65,6 +69,7 @@ impl Shared {
         ensures who { result.0.who ≡ pass.who }
         ensures ok { IfOk result.1 (λ reply. Asked pass (calls.Learn key.now phrase.now orig peak) (reply_of reply) result.0.seen) }
         ensures err { OnErr result.1 (HasSeen pass.who pass.seen result.0.seen) }
+        ensures legal { IsTrue (is_legal (start_of self.now.start) result.0.seen) }
     {
         let call = Call::Learn {
             key: key.copy(),
@@ -90,6 +95,7 @@ impl Shared {
         ensures who { result.0.who ≡ pass.who }
         ensures ok { IfOk result.1 (λ reply. Asked pass (calls.Forget key.now phrase.now) (reply_of reply) result.0.seen) }
         ensures err { OnErr result.1 (HasSeen pass.who pass.seen result.0.seen) }
+        ensures legal { IsTrue (is_legal (start_of self.now.start) result.0.seen) }
     {
         let call = Call::Forget {
             key: key.copy(),
@@ -114,6 +120,7 @@ impl Shared {
         ensures who { result.0.who ≡ pass.who }
         ensures ok { IfOk result.1 (λ reply. Asked pass (calls.Hide key.now phrase.now) (reply_of reply) result.0.seen) }
         ensures err { OnErr result.1 (HasSeen pass.who pass.seen result.0.seen) }
+        ensures legal { IsTrue (is_legal (start_of self.now.start) result.0.seen) }
     {
         let call = Call::Hide {
             key: key.copy(),

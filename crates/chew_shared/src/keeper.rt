@@ -1,8 +1,9 @@
 //! The calls of the keeper.
 
-ghost use Rattle.std.specs.Prelude.{◌≡◌, ◌≤◌, ℕ, IfOk, OnErr, Some, length};
+ghost use Rattle.std.specs.Prelude.{◌≡◌, ◌≤◌, ℕ, IfOk, IsTrue, OnErr, Some, length};
 ghost use Rattle.std.specs.Arc.{arc_value};
 ghost use Rattle.chew_spec_dictionary.specs.Call.{Freeze, Frozen, Install, Installed};
+ghost use Rattle.chew_spec_dictionary.specs.History.{is_legal, start_of};
 ghost use Rattle.chew_spec_layers.specs.Overlay.{overlay};
 ghost use Rattle.chew_spec_cell.specs.Seen.{HasSeen};
 ghost use Rattle.chew_spec_shared.specs.Asked.{Asked, IsOf};
@@ -34,9 +35,11 @@ impl Shared {
             (record { marks = arc_value snapshot.frozen; number = snapshot.upto; life = snapshot.life })) }
         ensures few { IfOk result.1 (λ snapshot. length (overlay (arc_value snapshot.base) (arc_value snapshot.frozen)) ≤ 200_000) }
         ensures err { OnErr result.1 (HasSeen keeper.who keeper.seen result.0.seen) }
+        ensures legal { IsTrue (is_legal (start_of self.now.start) result.0.seen) }
     {
         let mut turn = self.cell.enter(rt, keeper);
         let snapshot = turn.value.freeze();
+        turn.value.keeps();
         (self.cell.leave(turn), snapshot)
     }
 
@@ -49,9 +52,11 @@ impl Shared {
         ensures ours { IsOf self.now result }
         ensures who { result.who ≡ 0 }
         ensures ok { (number : ℕ) → waiting_after self.now.start keeper.seen ≡ Some number → Asked keeper (Install number) Installed result.seen }
+        ensures legal { IsTrue (is_legal (start_of self.now.start) result.seen) }
     {
         let mut turn = self.cell.enter(rt, keeper);
         turn.value.install(map);
+        turn.value.keeps();
         self.cell.leave(turn)
     }
 
@@ -62,10 +67,12 @@ impl Shared {
         ensures ours { IsOf self.now result.0 }
         ensures who { result.0.who ≡ 0 }
         ensures seen { HasSeen keeper.who keeper.seen result.0.seen }
+        ensures legal { IsTrue (is_legal (start_of self.now.start) result.0.seen) }
         ensures need { IsNeed self.now.start result.0.seen (meaning_of result.1) }
     {
         let turn = self.cell.enter(rt, keeper);
         let need = turn.value.need();
+        turn.value.keeps();
         (self.cell.leave(turn), need)
     }
 }

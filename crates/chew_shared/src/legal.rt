@@ -103,6 +103,13 @@ impl LegalLayers {
         self.layers.need()
     }
 
+    /// What all of these keep. It does nothing, and is there for proofs alone.
+    pub(crate) fn keeps(&self)
+        ensures { AreLegal self.now }
+    {
+        self.layers.keeps();
+    }
+
     /// The layers, to be kept.
     pub(crate) fn into_layers(self) -> Layers
         ensures same { result ≡ self }

@@ -1,11 +1,11 @@
 -- What waited for the keeper waits still, and the merge is of that.
-use Rattle.std.proofs.Common.{◌≡◌, ◌++◌, ◌∷◌, [], ℕ, List, Some, ap, ◌∙◌, sym, subst}
+use Rattle.std.proofs.Common.{◌≡◌, ◌++◌, ◌∷◌, [], ℕ, List, Some, ap, ◌∙◌, subst}
 use Rattle.std.specs.Arc.{arc_value}
 use Rattle.chew_spec_dictionary.specs.Call.{Install}
 use Rattle.chew_spec_dictionary.specs.History.{Entry}
 use Rattle.chew_spec_layers.specs.Layers.{Layers}
 use Rattle.chew_spec_cell.specs.Seen.{HasSeen}
-use Rattle.chew_spec_shared.specs.Snapshot.{IsMerge, waiting_after}
+use Rattle.chew_spec_shared.specs.Snapshot.{waiting_after}
 use Rattle.chew_spec_shared.proofs.Layered.{merge-held}
 use Rattle.chew_shared.proofs.Legality.{install-both, installed-legal, merge-still, waits-still}
 use Rattle.chew_shared.proofs.legal.LegalLayers.install.Goals as goal

@@ -1,5 +1,5 @@
 -- The layers are those that the cell gives back.
-use Rattle.std.proofs.Common.{◌∷◌, List, All, Contains, map, sym, subst}
+use Rattle.std.proofs.Common.{◌∷◌, All, Contains, map, sym, subst}
 use Rattle.chew_spec_dictionary.specs.History.{Entry}
 use Rattle.chew_spec_layers.specs.Layers.{Layers}
 use Rattle.chew_shared.proofs.shared.Shared.close.Goals as goal

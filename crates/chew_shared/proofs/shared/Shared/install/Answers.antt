@@ -1,5 +1,5 @@
 -- What waited for the keeper waits still, whatever others did meanwhile; and the turn adds the install.
-use Rattle.std.proofs.Common.{◌≡◌, ◌++◌, ◌∷◌, [], ℕ, List, Option, Some, refl, ap, ◌∙◌, sym, subst, inr}
+use Rattle.std.proofs.Common.{◌≡◌, ◌++◌, ◌∷◌, [], ℕ, List, Some, refl, ap, ◌∙◌, sym, subst, inr}
 use Rattle.std.specs.Arc.{arc_value}
 use Rattle.chew_spec_dictionary.specs.Call.{Install, Installed}
 use Rattle.chew_spec_dictionary.specs.Dictionary.{Dictionary}
