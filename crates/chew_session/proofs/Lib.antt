@@ -1,0 +1,12 @@
+pub mod Alone
+pub mod Calling
+pub mod Contexts
+pub mod Course
+pub mod Found
+pub mod Handled
+pub mod LastRounds
+pub mod Rounds
+pub mod Saving
+pub mod Sessions
+pub mod Talking
+pub mod Turned

@@ -1,0 +1,4 @@
+pub mod Answers
+pub mod Crew
+pub mod Saving
+pub mod Typing
