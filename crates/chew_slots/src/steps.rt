@@ -1,6 +1,6 @@
 ghost use Rattle.std.specs.Prelude.{◌≡◌, ◌⊎◌, ℕ, ◌+◌, ◌-◌, ◌^◌, ◌<◌, Bool, true, false, is_err, if◌then◌else◌, IfErr, IsOk, MatchResult, OnOk, OnErr};
 ghost use Rattle.chew_spec_outside.specs.Faults.{HasCause};
-ghost use Rattle.chew_spec_disk.specs.Disk.{Later, last_moment};
+ghost use Rattle.chew_spec_disk.specs.Disk.{IsDisk, Later, last_moment};
 ghost use Rattle.chew_spec_slots.specs.Fits.{Fits, IsFilled};
 ghost use Rattle.chew_spec_slots.specs.Keep.{advanced, is_shut, with_shut};
 ghost use Rattle.chew_spec_slots.specs.Slot.{IsSaved, Saved, body as slot_body};
@@ -29,12 +29,14 @@ impl Keep {
         ensures ok { OnOk result (self.new ≡ with_shut self.old self.old.target true) }
         ensures err { OnErr result (self.new ≡ self.old) }
         ensures step { IfErr result (λ fault. (fault.step ≡ 1) ⊎ (fault.step ≡ 2)) }
+        ensures unsure { OnErr result (is_shut self.old self.old.target ≡ false) }
         ensures cause { HasCause (D.faults disk.old) (D.faults disk.new) (is_err result) }
         ensures shut { OnOk result (is_shut self.new self.new.target ≡ true) }
         ensures calls { D.told disk.old ≡ true → MatchResult result
             (λ _. (D.state disk.new).moment ≡ (if is_shut self.old self.old.target then (D.state disk.old).moment else after_calls 2 (D.state disk.old).moment))
             (λ fault. (D.state disk.new).moment ≡ after_calls fault.step (D.state disk.old).moment) }
         ensures later { D.told disk.old ≡ true → Later (D.state disk.old) (D.state disk.new) }
+        ensures is_disk { D.told disk.old ≡ true → IsDisk (D.state disk.old) → IsDisk (D.state disk.new) }
         ensures shuts { D.told disk.old ≡ true → Fits self.old (D.state disk.old) →
             ShutsGate self.old (D.state disk.old) self.new (D.state disk.new) result }
     {
@@ -64,6 +66,7 @@ impl Keep {
             (λ _. (D.state disk.new).moment ≡ after_calls 2 (D.state disk.old).moment)
             (λ fault. (D.state disk.new).moment ≡ after_calls (fault.step - 2) (D.state disk.old).moment) }
         ensures later { D.told disk.old ≡ true → Later (D.state disk.old) (D.state disk.new) }
+        ensures is_disk { D.told disk.old ≡ true → IsDisk (D.state disk.old) → IsDisk (D.state disk.new) }
         ensures fills { (saved : Saved) → IsSaved saved → saved.seq ≡ self.old.seq + 1 → body.now ≡ slot_body saved →
             D.told disk.old ≡ true → Fits self.old (D.state disk.old) →
             FillsBody self.old (D.state disk.old) (D.state disk.new) saved result }
@@ -90,6 +93,7 @@ impl Keep {
             (λ _. (D.state disk.new).moment ≡ after_calls 2 (D.state disk.old).moment)
             (λ fault. (D.state disk.new).moment ≡ after_calls (fault.step - 4) (D.state disk.old).moment) }
         ensures later { D.told disk.old ≡ true → Later (D.state disk.old) (D.state disk.new) }
+        ensures is_disk { D.told disk.old ≡ true → IsDisk (D.state disk.old) → IsDisk (D.state disk.new) }
         ensures lifts { (saved : Saved) → D.told disk.old ≡ true → Fits self.old (D.state disk.old) →
             IsFilled self.old (D.state disk.old) saved →
             LiftsGate self.old (D.state disk.old) self.new (D.state disk.new) saved result }
