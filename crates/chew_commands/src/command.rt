@@ -56,12 +56,12 @@ pub fn command_of(words: &[&str]) -> Result<Command, Words>
     }
 }
 
-/// Whether the words are those of a run without the trace.
+/// Whether the words are those of a run.
 pub fn is_run(words: &[&str]) -> bool
     ensures { result ≡ is_run_command (map (λ word. word.now) words.now) }
 {
     match command_of(words) {
-        Ok(Command::Run { trace: false, .. }) => true,
+        Ok(Command::Run { .. }) => true,
         _ => false,
     }
 }

@@ -1,8 +1,7 @@
 -- How commands end that read one input.
-use Rattle.std.specs.Prelude.{◌≡◌, ◌⊎◌, ℕ, ◌≤◌, Bool, true, false, List, [], ◌∷◌, Contains, Option, Some, None, IsNone, Result, Ok, Err, nat_le, length, cond}
+use Rattle.std.specs.Prelude.{◌≡◌, ◌⊎◌, ℕ, Bool, true, false, List, [], ◌∷◌, Contains, Option, Some, None, Result, Ok, Err, nat_le, length, cond}
 use Rattle.std.proofs.Common.{refl, ap, sym, subst, inl, inr, ◌∙◌, ⊎_elim, arith}
 use Rattle.chew_spec_outside.specs.Faults.{Rose}
-use Rattle.chew_spec_outside.specs.Sink.{appended}
 use Rattle.chew_spec_syllable.specs.Row.{Row}
 use Rattle.chew_spec_image.specs.Reading.{image_reading}
 use Rattle.chew_spec_text.specs.DictionaryText.{RowCause, Size, dictionary_rows, system_limit}
@@ -13,7 +12,6 @@ use Rattle.chew_spec_program.specs.ImageRows.{rows_of_image, rows_or_refusal, to
 use Rattle.chew_spec_program.specs.Reading.{IsRead, Watched}
 use Rattle.chew_spec_program.specs.Refusal.{Refusal, NoMemory, SourceFailed, WrongImage, WrongSystem, refusal_status}
 use Rattle.chew_spec_program.specs.Writing.{Sunk}
-use Rattle.chew_spec_program.proofs.Writings.{writes-taken}
 
 -- all that is refused of what was read has the status 4
 abbrev pub RefusesByFour : (List ℕ → Result (List ℕ) Refusal) → Type 0

@@ -1,25 +1,35 @@
--- The output of contexts and one more.
-use Rattle.std.proofs.Common.{◌≡◌, ℕ, suc, ◌+◌, List, [], ◌∷◌, ◌++◌, flat_map, length, map, refl, sym, ap, ◌∙◌, arith}
+-- The output of contexts and one more, and of rounds and one more.
+use Rattle.std.proofs.Common.{◌≡◌, ℕ, suc, ◌+◌, List, [], ◌∷◌, ◌++◌, length, sym, ap, ◌∙◌, arith}
 use Rattle.std.proofs.lemmas.List.{append-nil, append_assoc}
-use Rattle.chew_spec_text.specs.Line.{Line, line_text}
-use Rattle.chew_spec_program.specs.Output.{context_text, contexts_from, header, output, texts_from}
+use Rattle.chew_spec_rounds.specs.Round.{Round}
+use Rattle.chew_spec_program.specs.Output.{contexts_from, header, round_line, rounds_from}
 
--- the same from a number on
-from_more : (number : ℕ) (contexts : List (List Line)) (lines : List Line)
-    → contexts_from number (contexts ++ lines ∷ []) ≡ contexts_from number contexts ++ context_text (number + length contexts) lines
-from_more number [] lines = append-nil _ ∙ ap (λ n. context_text n lines) (omega arith)
-from_more number (first ∷ contexts) lines =
+-- from a number on
+contexts-after : (number : ℕ) (contexts : List (List ℕ)) (lines : List ℕ)
+    → contexts_from number (contexts ++ lines ∷ []) ≡ contexts_from number contexts ++ (header (number + length contexts) ++ lines)
+contexts-after number [] lines =
+    ap (λ rest. header number ++ rest) (append-nil lines) ∙ ap (λ n. header n ++ lines) (let e : number ≡ number + 0 = omega arith in e)
+contexts-after number (first ∷ contexts) lines =
     let number_is : suc number + length contexts ≡ number + suc (length contexts) = omega arith in
-    ap (λ rest. context_text number first ++ rest) (from_more (suc number) contexts lines ∙ ap (λ n. contexts_from (suc number) contexts ++ context_text n lines) number_is)
-    ∙ sym (append_assoc (context_text number first) (contexts_from (suc number) contexts) (context_text (number + suc (length contexts)) lines))
+    let more = header (number + suc (length contexts)) ++ lines in
+    ap (λ rest. header number ++ (first ++ rest)) (contexts-after (suc number) contexts lines ∙ ap (λ n. contexts_from (suc number) contexts ++ (header n ++ lines)) number_is)
+    ∙ ap (λ rest. header number ++ rest) (sym (append_assoc first (contexts_from (suc number) contexts) more))
+    ∙ sym (append_assoc (header number) (first ++ contexts_from (suc number) contexts) more)
+
+rounds-after : (number : ℕ) (rounds : List Round) (last : Round)
+    → rounds_from number (rounds ++ last ∷ []) ≡ rounds_from number rounds ++ round_line (number + length rounds) last
+rounds-after number [] last = append-nil (round_line number last) ∙ ap (λ n. round_line n last) (let e : number ≡ number + 0 = omega arith in e)
+rounds-after number (first ∷ rounds) last =
+    let number_is : suc number + length rounds ≡ number + suc (length rounds) = omega arith in
+    ap (λ rest. round_line number first ++ rest) (rounds-after (suc number) rounds last ∙ ap (λ n. rounds_from (suc number) rounds ++ round_line n last) number_is)
+    ∙ sym (append_assoc (round_line number first) (rounds_from (suc number) rounds) (round_line (number + suc (length rounds)) last))
 
 -- one context more is written behind the others, under its number
-pub output_more : (contexts : List (List Line)) (lines : List Line) → output (contexts ++ lines ∷ []) ≡ output contexts ++ context_text (length contexts + 1) lines
-output_more contexts lines = from_more 1 contexts lines ∙ ap (λ n. output contexts ++ context_text n lines) (omega arith)
+pub contexts-more : (contexts : List (List ℕ)) (lines : List ℕ) → contexts_from 1 (contexts ++ lines ∷ []) ≡ contexts_from 1 contexts ++ (header (length contexts + 1) ++ lines)
+contexts-more contexts lines =
+    contexts-after 1 contexts lines ∙ ap (λ n. contexts_from 1 contexts ++ (header n ++ lines)) (let e : 1 + length contexts ≡ length contexts + 1 = omega arith in e)
 
--- the texts of contexts' lines, each behind its header, are the contexts
-pub texts-contexts : (number : ℕ) (contexts : List (List Line)) → texts_from number (map (flat_map line_text) contexts) ≡ contexts_from number contexts
-texts-contexts number [] = refl
-texts-contexts number (lines ∷ contexts) =
-    ap (λ rest. header number ++ (flat_map line_text lines ++ rest)) (texts-contexts (suc number) contexts)
-    ∙ sym (append_assoc (header number) (flat_map line_text lines) (contexts_from (suc number) contexts))
+-- and one round more
+pub rounds-more : (rounds : List Round) (last : Round) → rounds_from 1 (rounds ++ last ∷ []) ≡ rounds_from 1 rounds ++ round_line (length rounds + 1) last
+rounds-more rounds last =
+    rounds-after 1 rounds last ∙ ap (λ n. rounds_from 1 rounds ++ round_line n last) (let e : 1 + length rounds ≡ length rounds + 1 = omega arith in e)

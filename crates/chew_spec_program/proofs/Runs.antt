@@ -1,216 +1,163 @@
 -- What the status of a run says.
-use Rattle.std.specs.Prelude.{◌≡◌, ◌⊎◌, ◌↔◌, ℕ, ◌≤◌, Bool, true, false, ◌&&◌, List, [], ◌∷◌, Contains, Option, Some, None, IsNone, Result, Ok, Err, MatchResult, cond, is_ok}
-use Rattle.std.proofs.Common.{refl, ap, sym, subst, inl, inr, ◌∙◌, ⊎_elim, arith, true≢false}
+use Rattle.std.specs.Prelude.{◌≡◌, ◌⊎◌, ◌↔◌, ℕ, zero, suc, ◌≤◌, true, false, ◌||◌, List, [], ◌∷◌, Contains, Result, Ok, Err, MatchResult, min, ◌+◌, ◌-◌, ◌^◌, drop}
+use Rattle.std.specs.List.{list_any}
+use Rattle.std.proofs.Common.{ap, sym, subst, inl, inr, ◌∙◌, ⊎_elim, arith, true≢false}
 use Rattle.std.proofs.lemmas.Bool.{cond-false}
 use Rattle.chew_spec_outside.specs.Faults.{Rose}
-use Rattle.chew_spec_syllable.specs.Row.{Row}
-use Rattle.chew_spec_text.specs.DictionaryText.{dictionary_rows}
-use Rattle.chew_spec_text.specs.Script.{Script, script_of}
-use Rattle.chew_spec_editor.specs.Settings.{Settings}
-use Rattle.chew_spec_settings.specs.SettingsText.{settings_of}
-use Rattle.chew_spec_program.specs.Command.{is_run_command}
-use Rattle.chew_spec_program.specs.Opening.{Inputs, IsOpening, Opens, WantedMemory, inputs_of, names_settings, opening, or_refusal, script_value, settings_value, system_value, value_or_refusal}
+use Rattle.chew_spec_rounds.specs.Round.{DiskFault, NoMemory, Round, Saved, SeqSpent}
+use Rattle.chew_spec_session.specs.LastRounds.{disk_faults, is_disk_fault}
+use Rattle.chew_spec_program.specs.Command.{asks_trace, is_run_command}
+use Rattle.chew_spec_program.specs.Opening.{Inputs, IsOpening, Opens, WantedMemory, opening}
 use Rattle.chew_spec_program.specs.Reading.{Watched}
-use Rattle.chew_spec_program.specs.Refusal.{Refusal, NoMemory, SourceFailed, WrongImage, WrongScript, WrongSettings, WrongSystem, WrongWords, refusal_status}
-use Rattle.chew_spec_program.specs.Run.{Ended, IsRefused, IsRun, IsTalk, Outside, are_handled, talk_status}
+use Rattle.chew_spec_program.specs.Refusal.{NoMemory as Wanting, Refusal, WrongWords, refusal_status}
+use Rattle.chew_spec_program.specs.Run.{Ended, IsDone, IsRefused, IsRun, Outside}
+use Rattle.chew_spec_program.specs.Slots.{Kept, SparesDisk}
 use Rattle.chew_spec_program.specs.Writing.{Sunk}
+use Rattle.chew_spec_program.proofs.Causes.{ByContent, ByDisk, ByScript, BySettings, BySystem, ByWords, Cause, opens-cause}
+use Rattle.chew_spec_program.proofs.Statuses.{done-flags, flags-among, flags-tell, last_fault, last_spent, refusal-apart, refusal-listed, statuses}
 
--- the statuses of a run
-abbrev statuses : List ℕ
-statuses = 0 ∷ (2 ∷ (3 ∷ (4 ∷ (5 ∷ (7 ∷ (8 ∷ (10 ∷ [])))))))
+-- how a run ended that was opened so
+abbrev pub Ends : (words : List (List ℕ)) → Outside → Ended → Result Inputs Refusal → Type 0
+Ends words outside ended opened = MatchResult opened (λ inputs. IsDone inputs (asks_trace words) outside.sink outside.disk ended)
+    (λ refusal. IsRefused refusal outside.sink ended × SparesDisk refusal outside.disk)
 
-refusal-listed : (refusal : Refusal) → Contains statuses (refusal_status refusal)
-refusal-listed WrongWords = (1, omega arith, refl)
-refusal-listed (WrongSettings fault) = (2, omega arith, refl)
-refusal-listed (WrongSystem fault) = (3, omega arith, refl)
-refusal-listed (WrongScript fault) = (4, omega arith, refl)
-refusal-listed (WrongImage place) = (3, omega arith, refl)
-refusal-listed SourceFailed = (5, omega arith, refl)
-refusal-listed NoMemory = (7, omega arith, refl)
+-- the status of a refused run
+pub refused-status : (refusal : Refusal) (sink : Sunk) (ended : Ended) → IsRefused refusal sink ended → ended.status ≡ refusal_status refusal
+refused-status refusal sink ended refused = ap (λ (e : Ended). e.status) refused.ends
 
-talk-listed : (failed all : Bool) → Contains statuses (talk_status failed all)
-talk-listed true all = (6, omega arith, refl)
-talk-listed false true = (0, omega arith, refl)
-talk-listed false false = (7, omega arith, refl)
-
-listed : (opened : Result Inputs Refusal) (sink : Sunk) (ended : Ended)
-    → MatchResult opened (λ inputs. IsTalk inputs sink ended) (λ refusal. IsRefused refusal sink ended) → Contains statuses ended.status
-listed (Ok inputs) sink ended talk =
-    subst (Contains statuses) (sym talk.status) (talk-listed talk.failed (are_handled inputs.script.contexts ended.handled))
-listed (Err refusal) sink ended refused = subst (Contains statuses) (sym (ap (λ (e : Ended). e.status) refused.ends)) (refusal-listed refusal)
+listed : (words : List (List ℕ)) (outside : Outside) (ended : Ended) (opened : Result Inputs Refusal) → Ends words outside ended opened → Contains statuses ended.status
+listed words outside ended (Ok inputs) done =
+    subst (Contains statuses) (sym (done-flags inputs (asks_trace words) outside.sink outside.disk ended done))
+    (flags-among done.failed (done.session.memory || done.cut) (last_fault ended) (last_spent ended))
+listed words outside ended (Err refusal) refused = subst (Contains statuses) (sym (refused-status refusal outside.sink ended refused.0)) (refusal-listed refusal)
 
 pub run-statuses : (words : List (List ℕ)) (outside : Outside) (ended : Ended) → IsRun words outside ended → Contains statuses ended.status
-run-statuses words outside ended run = listed run.opened outside.sink ended run.ends
+run-statuses words outside ended run = listed words outside ended run.opened run.ends
 
--- a run that is not refused has the status 0, 8 or 10
-talk-apart : (failed all : Bool) (status : ℕ) → 1 ≤ status → status ≤ 7 → status ≡ talk_status failed all → ⊥
-talk-apart true all status low high e = omega arith
-talk-apart false true status low high e = omega arith
-talk-apart false false status low high e = omega arith
+-- a run that is not refused has none of the statuses 1 to 7
+pub done-apart : (words : List (List ℕ)) (outside : Outside) (ended : Ended) (inputs : Inputs) (status : ℕ) → 1 ≤ status → status ≤ 7
+    → IsDone inputs (asks_trace words) outside.sink outside.disk ended → ended.status ≡ status → ⊥
+done-apart words outside ended inputs status low high done e =
+    let flags = done-flags inputs (asks_trace words) outside.sink outside.disk ended done in
+    (flags-tell done.failed (done.session.memory || done.cut) (last_fault ended) (last_spent ended)).apart (omega arith) (omega arith)
 
--- what a text's value is refused for is what its faults make
-refused-by : {X F : Type 0} (refusal : F → Refusal) (other : Refusal) → ((fault : F) → refusal fault ≡ other → ⊥) → (o : Result X F) → or_refusal refusal o ≡ Err other → ⊥
-refused-by refusal other apart (Ok x) e = cc
-refused-by refusal other apart (Err fault) e = apart fault (let same : refusal fault ≡ other = cc in same)
+-- what is known of a refusal by its status
+two-words : (words : List (List ℕ)) (settings system script : Watched) (disk : Kept) (refusal : Refusal) → refusal_status refusal ≡ 2
+    → Cause words settings system script disk refusal → is_run_command words ≡ false
+two-words words settings system script disk refusal e (ByWords wrong is) = wrong
+two-words words settings system script disk refusal e (BySettings is rose) = absurd (let seven : refusal_status refusal ≡ 7 = ap refusal_status is in omega arith)
+two-words words settings system script disk refusal e (BySystem is rose) = absurd (let seven : refusal_status refusal ≡ 7 = ap refusal_status is in omega arith)
+two-words words settings system script disk refusal e (ByScript is rose) = absurd (let seven : refusal_status refusal ≡ 7 = ap refusal_status is in omega arith)
+two-words words settings system script disk refusal e (ByDisk is rose) = absurd (let nine : refusal_status refusal ≡ 9 = ap refusal_status is in omega arith)
+two-words words settings system script disk refusal e (ByContent low high) = absurd (omega arith)
 
--- no input is refused for the words
-no-words : {X F : Type 0} (value : List ℕ → Result X F) (refusal : F → Refusal) → ((fault : F) → refusal fault ≡ WrongWords → ⊥) → (text : Option (List ℕ))
-    → value_or_refusal value refusal text ≡ Err WrongWords → ⊥
-no-words value refusal apart None e = cc
-no-words value refusal apart (Some text) e = refused-by refusal WrongWords apart (value text) e
+abbrev RoseOne : Watched → Watched → Watched → Type 0
+RoseOne settings system script =
+    Rose settings.faults_before settings.faults_now ⊎ (Rose system.faults_before system.faults_now ⊎ Rose script.faults_before script.faults_now)
 
-settings-words : (named : Bool) (text : Option (List ℕ)) → settings_value named text ≡ Err WrongWords → ⊥
-settings-words true text e = no-words settings_of WrongSettings (λ fault e. cc) text e
-settings-words false text e = cc
+seven-rose : (words : List (List ℕ)) (settings system script : Watched) (disk : Kept) (refusal : Refusal) → refusal_status refusal ≡ 7
+    → Cause words settings system script disk refusal → RoseOne settings system script
+seven-rose words settings system script disk refusal e (ByWords wrong is) = absurd (let two : refusal_status refusal ≡ 2 = ap refusal_status is in omega arith)
+seven-rose words settings system script disk refusal e (BySettings is rose) = inl rose
+seven-rose words settings system script disk refusal e (BySystem is rose) = inr (inl rose)
+seven-rose words settings system script disk refusal e (ByScript is rose) = inr (inr rose)
+seven-rose words settings system script disk refusal e (ByDisk is rose) = absurd (let nine : refusal_status refusal ≡ 9 = ap refusal_status is in omega arith)
+seven-rose words settings system script disk refusal e (ByContent low high) = absurd (omega arith)
 
-inputs-words : (settings : Result Settings Refusal) (rows : Result (List Row) Refusal) (script : Result Script Refusal) → (settings ≡ Err WrongWords → ⊥)
-    → (rows ≡ Err WrongWords → ⊥) → (script ≡ Err WrongWords → ⊥) → inputs_of settings rows script ≡ Err WrongWords → ⊥
-inputs-words (Err refusal) rows script o p q e = o (let same : refusal ≡ WrongWords = cc in ap Err same)
-inputs-words (Ok settings) (Err refusal) script o p q e = p (let same : refusal ≡ WrongWords = cc in ap Err same)
-inputs-words (Ok settings) (Ok rows) (Err refusal) o p q e = q (let same : refusal ≡ WrongWords = cc in ap Err same)
-inputs-words (Ok settings) (Ok rows) (Ok script) o p q e = cc
+nine-rose : (words : List (List ℕ)) (settings system script : Watched) (disk : Kept) (refusal : Refusal) → refusal_status refusal ≡ 9
+    → Cause words settings system script disk refusal → Rose disk.faults_before disk.faults_now
+nine-rose words settings system script disk refusal e (ByWords wrong is) = absurd (let two : refusal_status refusal ≡ 2 = ap refusal_status is in omega arith)
+nine-rose words settings system script disk refusal e (BySettings is rose) = absurd (let seven : refusal_status refusal ≡ 7 = ap refusal_status is in omega arith)
+nine-rose words settings system script disk refusal e (BySystem is rose) = absurd (let seven : refusal_status refusal ≡ 7 = ap refusal_status is in omega arith)
+nine-rose words settings system script disk refusal e (ByScript is rose) = absurd (let seven : refusal_status refusal ≡ 7 = ap refusal_status is in omega arith)
+nine-rose words settings system script disk refusal e (ByDisk is rose) = rose
+nine-rose words settings system script disk refusal e (ByContent low high) = absurd (omega arith)
 
-opening-words : (words : List (List ℕ)) (settings system script : Option (List ℕ)) → opening words settings system script ≡ Err WrongWords → is_run_command words ≡ false
-unfolding opening
-opening-words words settings system script e = by (is_run_command words) e
-  where
-    by : (b : Bool) → cond b (inputs_of (settings_value (names_settings words) settings) (system_value system) (script_value script)) (Err WrongWords) ≡ Err WrongWords → b ≡ false
-    by true h = absurd (inputs-words (settings_value (names_settings words) settings) (system_value system) (script_value script)
-        (settings-words (names_settings words) settings) (no-words dictionary_rows WrongSystem (λ fault e. cc) system) (no-words script_of WrongScript (λ fault e. cc) script) h)
-    by false h = refl
+-- why a run was refused by this status, which is not that of want of memory
+caused : (words : List (List ℕ)) (settings system script : Watched) (disk : Kept) (refusal : Refusal) (status : ℕ) (Q : Type 0) → status ≤ 9 → refusal_status refusal ≡ status
+    → (Cause words settings system script disk refusal → Q) → IsOpening words settings system script disk (Err refusal) → Q
+caused words settings system script disk refusal status Q low e by is =
+    ⊎_elim (λ (opens : Opens words settings system script disk (Err refusal)). by (opens-cause words settings system script disk refusal opens))
+    (λ (wanted : WantedMemory words (Err refusal)). absurd (let same : refusal ≡ Wanting = cc wanted.refused in let ten : refusal_status refusal ≡ 10 = ap refusal_status same in omega arith)) is
 
-words-refused : (words : List (List ℕ)) (settings system script : Watched) → IsOpening words settings system script (Err WrongWords) → is_run_command words ≡ false
-words-refused words settings system script is =
-    ⊎_elim (λ (opens : Opens words settings system script (Err WrongWords)). opening-words words opens.settings_text opens.system_text opens.script_text (sym opens.gives))
-    (λ (wanted : WantedMemory words (Err WrongWords)). absurd (cc (wanted.refused))) is
+status-words : (words : List (List ℕ)) (outside : Outside) (ended : Ended) (opened : Result Inputs Refusal) → IsOpening words outside.settings outside.system outside.script outside.disk opened
+    → Ends words outside ended opened → ended.status ≡ 2 → is_run_command words ≡ false
+status-words words outside ended (Ok inputs) is done e = absurd (done-apart words outside ended inputs 2 (omega arith) (omega arith) done e)
+status-words words outside ended (Err refusal) is refused e =
+    let two = sym (refused-status refusal outside.sink ended refused.0) ∙ e in
+    caused words outside.settings outside.system outside.script outside.disk refusal 2 (is_run_command words ≡ false) (omega arith) two
+    (two-words words outside.settings outside.system outside.script outside.disk refusal two) is
 
-status-words : (words : List (List ℕ)) (settings system script : Watched) (opened : Result Inputs Refusal) (sink : Sunk) (ended : Ended) → IsOpening words settings system script opened
-    → MatchResult opened (λ inputs. IsTalk inputs sink ended) (λ refusal. IsRefused refusal sink ended) → ended.status ≡ 2 → is_run_command words ≡ false
-status-words words settings system script (Ok inputs) sink ended is talk e =
-    absurd (talk-apart talk.failed (are_handled inputs.script.contexts ended.handled) 2 (omega arith) (omega arith) (sym e ∙ talk.status))
-status-words words settings system script (Err WrongWords) sink ended is refused e = words-refused words settings system script is
-status-words words settings system script (Err (WrongSettings fault)) sink ended is refused e = absurd (omega (arith, ap (λ (d : Ended). d.status) refused.ends))
-status-words words settings system script (Err (WrongSystem fault)) sink ended is refused e = absurd (omega (arith, ap (λ (d : Ended). d.status) refused.ends))
-status-words words settings system script (Err (WrongScript fault)) sink ended is refused e = absurd (omega (arith, ap (λ (d : Ended). d.status) refused.ends))
-status-words words settings system script (Err (WrongImage place)) sink ended is refused e = absurd (omega (arith, ap (λ (d : Ended). d.status) refused.ends))
-status-words words settings system script (Err SourceFailed) sink ended is refused e = absurd (omega (arith, ap (λ (d : Ended). d.status) refused.ends))
-status-words words settings system script (Err NoMemory) sink ended is refused e = absurd (omega (arith, ap (λ (d : Ended). d.status) refused.ends))
-
-opened-words : (words : List (List ℕ)) (settings system script : Watched) (opened : Result Inputs Refusal) → IsOpening words settings system script opened
+opened-wrong : (words : List (List ℕ)) (settings system script : Watched) (disk : Kept) (opened : Result Inputs Refusal) → IsOpening words settings system script disk opened
     → is_run_command words ≡ false → opened ≡ Err WrongWords
 unfolding opening
-opened-words words settings system script opened is e =
-    ⊎_elim (λ (opens : Opens words settings system script opened). opens.gives ∙ cond-false _ _ _ e)
+opened-wrong words settings system script disk opened is e =
+    ⊎_elim (λ (opens : Opens words settings system script disk opened). opens.gives ∙ cond-false _ _ _ e)
     (λ (wanted : WantedMemory words opened). absurd (true≢false (sym wanted.command ∙ e))) is
 
-words-status : (opened : Result Inputs Refusal) (sink : Sunk) (ended : Ended)
-    → MatchResult opened (λ inputs. IsTalk inputs sink ended) (λ refusal. IsRefused refusal sink ended) → opened ≡ Err WrongWords → ended.status ≡ 2
-words-status (Ok inputs) sink ended talk e = absurd (cc e)
-words-status (Err refusal) sink ended refused e =
-    let same : refusal ≡ WrongWords = cc in ap (λ (d : Ended). d.status) refused.ends ∙ ap refusal_status same
+pub status-refused : (words : List (List ℕ)) (outside : Outside) (ended : Ended) (opened : Result Inputs Refusal) (refusal : Refusal) → Ends words outside ended opened → opened ≡ Err refusal
+    → ended.status ≡ refusal_status refusal
+status-refused words outside ended (Ok inputs) refusal done e = absurd (cc e)
+status-refused words outside ended (Err other) refusal refused e =
+    let same : other ≡ refusal = cc e in refused-status other outside.sink ended refused.0 ∙ ap refusal_status same
 
 pub run-words : (words : List (List ℕ)) (outside : Outside) (ended : Ended) → IsRun words outside ended → (ended.status ≡ 2) ↔ (is_run_command words ≡ false)
 run-words words outside ended run = (
-  status-words words outside.settings outside.system outside.script run.opened outside.sink ended run.opening run.ends,
-  λ e. words-status run.opened outside.sink ended run.ends (opened-words words outside.settings outside.system outside.script run.opened run.opening e),
+  status-words words outside ended run.opened run.opening run.ends,
+  λ e. status-refused words outside ended run.opened WrongWords run.ends
+      (opened-wrong words outside.settings outside.system outside.script outside.disk run.opened run.opening e),
 )
 
--- a source is refused only where one failed
-no-source : {X F : Type 0} (value : List ℕ → Result X F) (refusal : F → Refusal) → ((fault : F) → refusal fault ≡ SourceFailed → ⊥) → (text : Option (List ℕ))
-    → value_or_refusal value refusal text ≡ Err SourceFailed → IsNone text
-no-source value refusal apart None e = refl
-no-source value refusal apart (Some text) e = absurd (refused-by refusal SourceFailed apart (value text) e)
+status-source : (words : List (List ℕ)) (outside : Outside) (ended : Ended) (opened : Result Inputs Refusal) → IsOpening words outside.settings outside.system outside.script outside.disk opened
+    → Ends words outside ended opened → ended.status ≡ 7 → RoseOne outside.settings outside.system outside.script
+status-source words outside ended (Ok inputs) is done e = absurd (done-apart words outside ended inputs 7 (omega arith) (omega arith) done e)
+status-source words outside ended (Err refusal) is refused e =
+    let seven = sym (refused-status refusal outside.sink ended refused.0) ∙ e in
+    caused words outside.settings outside.system outside.script outside.disk refusal 7 (RoseOne outside.settings outside.system outside.script) (omega arith) seven
+    (seven-rose words outside.settings outside.system outside.script outside.disk refusal seven) is
 
-settings-source : (named : Bool) (text : Option (List ℕ)) → settings_value named text ≡ Err SourceFailed → (named ≡ true) × IsNone text
-settings-source true text e = (refl, no-source settings_of WrongSettings (λ fault e. cc) text e)
-settings-source false text e = absurd cc
+pub run-source : (words : List (List ℕ)) (outside : Outside) (ended : Ended) → IsRun words outside ended → ended.status ≡ 7 → RoseOne outside.settings outside.system outside.script
+run-source words outside ended run e = status-source words outside ended run.opened run.opening run.ends e
 
-inputs-source : (settings : Result Settings Refusal) (rows : Result (List Row) Refusal) (script : Result Script Refusal) → inputs_of settings rows script ≡ Err SourceFailed
-    → (settings ≡ Err SourceFailed) ⊎ ((is_ok settings ≡ true) × ((rows ≡ Err SourceFailed) ⊎ ((is_ok rows ≡ true) × (script ≡ Err SourceFailed))))
-inputs-source (Err refusal) rows script e = inl (let same : refusal ≡ SourceFailed = cc in ap Err same)
-inputs-source (Ok settings) (Err refusal) script e = inr (refl, inl (let same : refusal ≡ SourceFailed = cc in ap Err same))
-inputs-source (Ok settings) (Ok rows) (Err refusal) e = inr (refl, inr (refl, (let same : refusal ≡ SourceFailed = cc in ap Err same)))
-inputs-source (Ok settings) (Ok rows) (Ok script) e = absurd cc
-
--- the texts of a run that a source refuses: one of them is none, and those before it have no fault
-abbrev Failed : (named : Bool) → (settings system script : Option (List ℕ)) → Type 0
-Failed named settings system script =
-    ((named ≡ true) × IsNone settings)
-    ⊎ ((is_ok (settings_value named settings) ≡ true) × (IsNone system ⊎ ((is_ok (system_value system) ≡ true) × IsNone script)))
-
-opening-source : (words : List (List ℕ)) (settings system script : Option (List ℕ)) → opening words settings system script ≡ Err SourceFailed
-    → (is_run_command words ≡ true) × Failed (names_settings words) settings system script
-unfolding opening
-opening-source words settings system script e = by (is_run_command words) e
-  where
-    by : (b : Bool) → cond b (inputs_of (settings_value (names_settings words) settings) (system_value system) (script_value script)) (Err WrongWords) ≡ Err SourceFailed
-        → (b ≡ true) × Failed (names_settings words) settings system script
-    by true h = (
-      refl,
-      ⊎_elim (λ set. inl (settings-source (names_settings words) settings set))
-          (λ later. inr (
-            later.0,
-            ⊎_elim (λ rows. inl (no-source dictionary_rows WrongSystem (λ fault e. cc) system rows))
-                (λ keys. inr (keys.0, no-source script_of WrongScript (λ fault e. cc) script keys.1)) later.1,
-          ))
-          (inputs-source (settings_value (names_settings words) settings) (system_value system) (script_value script) h),
-    )
-    by false h = absurd cc
-
-both : (a b : Bool) → a ≡ true → b ≡ true → (a && b) ≡ true
-both true b e f = f
-both false b e f = absurd (true≢false (sym e))
-
-source-refused : (words : List (List ℕ)) (settings system script : Watched) → IsOpening words settings system script (Err SourceFailed)
-    → Rose settings.faults_before settings.faults_now ⊎ (Rose system.faults_before system.faults_now ⊎ Rose script.faults_before script.faults_now)
-source-refused words settings system script is =
-    ⊎_elim (λ (opens : Opens words settings system script (Err SourceFailed)).
-    let failed = opening-source words opens.settings_text opens.system_text opens.script_text (sym opens.gives) in
-    let set : Bool = is_ok (settings_value (names_settings words) opens.settings_text) in
-    ⊎_elim (λ none. inl ((opens.settings_read.read none.0).failed none.1))
-    (λ later. inr (⊎_elim (λ none. inl ((opens.system_read.read (both (is_run_command words) set failed.0 later.0)).failed none))
-    (λ keys. inr ((opens.script_read.read (both (is_run_command words) (set && is_ok (system_value opens.system_text)) failed.0
-    (both set (is_ok (system_value opens.system_text)) later.0 keys.0))).failed keys.1)) later.1)) failed.1)
-    (λ (wanted : WantedMemory words (Err SourceFailed)). absurd (cc (wanted.refused))) is
-
-status-source : (words : List (List ℕ)) (settings system script : Watched) (opened : Result Inputs Refusal) (sink : Sunk) (ended : Ended) → IsOpening words settings system script opened
-    → MatchResult opened (λ inputs. IsTalk inputs sink ended) (λ refusal. IsRefused refusal sink ended) → ended.status ≡ 7
-    → Rose settings.faults_before settings.faults_now ⊎ (Rose system.faults_before system.faults_now ⊎ Rose script.faults_before script.faults_now)
-status-source words settings system script (Ok inputs) sink ended is talk e =
-    absurd (talk-apart talk.failed (are_handled inputs.script.contexts ended.handled) 7 (omega arith) (omega arith) (sym e ∙ talk.status))
-status-source words settings system script (Err SourceFailed) sink ended is refused e = source-refused words settings system script is
-status-source words settings system script (Err (WrongSettings fault)) sink ended is refused e = absurd (omega (arith, ap (λ (d : Ended). d.status) refused.ends))
-status-source words settings system script (Err (WrongSystem fault)) sink ended is refused e = absurd (omega (arith, ap (λ (d : Ended). d.status) refused.ends))
-status-source words settings system script (Err (WrongScript fault)) sink ended is refused e = absurd (omega (arith, ap (λ (d : Ended). d.status) refused.ends))
-status-source words settings system script (Err (WrongImage place)) sink ended is refused e = absurd (omega (arith, ap (λ (d : Ended). d.status) refused.ends))
-status-source words settings system script (Err WrongWords) sink ended is refused e = absurd (omega (arith, ap (λ (d : Ended). d.status) refused.ends))
-status-source words settings system script (Err NoMemory) sink ended is refused e = absurd (omega (arith, ap (λ (d : Ended). d.status) refused.ends))
-
-pub run-source : (words : List (List ℕ)) (outside : Outside) (ended : Ended) → IsRun words outside ended → ended.status ≡ 7
-    → Rose outside.settings.faults_before outside.settings.faults_now ⊎ (Rose outside.system.faults_before outside.system.faults_now ⊎ Rose outside.script.faults_before outside.script.faults_now)
-run-source words outside ended run e = status-source words outside.settings outside.system outside.script run.opened outside.sink ended run.opening run.ends e
-
--- the status is 8 only where the sink failed
-talk-eight : (failed all : Bool) → talk_status failed all ≡ 8 → failed ≡ true
-talk-eight true all e = refl
-talk-eight false true e = absurd (omega arith)
-talk-eight false false e = absurd (omega arith)
-
-refusal-eight : (refusal : Refusal) → refusal_status refusal ≡ 8 → ⊥
-refusal-eight WrongWords e = omega arith
-refusal-eight (WrongSettings fault) e = omega arith
-refusal-eight (WrongSystem fault) e = omega arith
-refusal-eight (WrongScript fault) e = omega arith
-refusal-eight (WrongImage place) e = omega arith
-refusal-eight SourceFailed e = omega arith
-refusal-eight NoMemory e = omega arith
-
-status-sink : (opened : Result Inputs Refusal) (sink : Sunk) (ended : Ended)
-    → MatchResult opened (λ inputs. IsTalk inputs sink ended) (λ refusal. IsRefused refusal sink ended) → ended.status ≡ 8 → Rose sink.faults_before sink.faults_now
-status-sink (Ok inputs) sink ended talk e =
-    talk.writes.rose (talk-eight talk.failed (are_handled inputs.script.contexts ended.handled) (sym talk.status ∙ e))
-status-sink (Err refusal) sink ended refused e = absurd (refusal-eight refusal (sym (ap (λ (d : Ended). d.status) refused.ends) ∙ e))
-
-pub run-sink : (words : List (List ℕ)) (outside : Outside) (ended : Ended) → IsRun words outside ended → ended.status ≡ 8
+status-sink : (words : List (List ℕ)) (outside : Outside) (ended : Ended) (opened : Result Inputs Refusal) → Ends words outside ended opened → ended.status ≡ 8
     → Rose outside.sink.faults_before outside.sink.faults_now
-run-sink words outside ended run e = status-sink run.opened outside.sink ended run.ends e
+status-sink words outside ended (Ok inputs) done e =
+    let flags = done-flags inputs (asks_trace words) outside.sink outside.disk ended done in
+    done.prints.writes.rose ((flags-tell done.failed (done.session.memory || done.cut) (last_fault ended) (last_spent ended)).eight (sym flags ∙ e))
+status-sink words outside ended (Err refusal) refused e = absurd ((refusal-apart refusal).1 (sym (refused-status refusal outside.sink ended refused.0) ∙ e))
+
+pub run-sink : (words : List (List ℕ)) (outside : Outside) (ended : Ended) → IsRun words outside ended → ended.status ≡ 8 → Rose outside.sink.faults_before outside.sink.faults_now
+run-sink words outside ended run e = status-sink words outside ended run.opened run.ends e
+
+-- a fault among the last rounds is one among all
+pub fault-counted : (rounds : List Round) (n : ℕ) → list_any is_disk_fault (drop n rounds) ≡ true → 1 ≤ disk_faults rounds
+fault-counted [] zero e = absurd (true≢false (sym e))
+fault-counted [] (suc n) e = absurd (true≢false (sym e))
+fault-counted (Saved number ∷ rounds) zero e = fault-counted rounds 0 e
+fault-counted (DiskFault step ∷ rounds) zero e = omega arith
+fault-counted (NoMemory ∷ rounds) zero e = fault-counted rounds 0 e
+fault-counted (SeqSpent seq ∷ rounds) zero e = fault-counted rounds 0 e
+fault-counted (Saved number ∷ rounds) (suc n) e = fault-counted rounds n e
+fault-counted (DiskFault step ∷ rounds) (suc n) e = omega arith
+fault-counted (NoMemory ∷ rounds) (suc n) e = fault-counted rounds n e
+fault-counted (SeqSpent seq ∷ rounds) (suc n) e = fault-counted rounds n e
+
+-- a count that rose by one at least rose
+pub rose-by-one : (count before now : ℕ) → 1 ≤ count → min (before + count) (2 ^ 64 - 1) ≤ now → Rose before now
+rose-by-one count before now one rose = omega arith
+
+status-disk : (words : List (List ℕ)) (outside : Outside) (ended : Ended) (opened : Result Inputs Refusal) → IsOpening words outside.settings outside.system outside.script outside.disk opened
+    → Ends words outside ended opened → ended.status ≡ 9 → Rose outside.disk.faults_before outside.disk.faults_now
+status-disk words outside ended (Ok inputs) is done e =
+    let flags = done-flags inputs (asks_trace words) outside.sink outside.disk ended done in
+    let fault = (flags-tell done.failed (done.session.memory || done.cut) (last_fault ended) (last_spent ended)).nine (sym flags ∙ e) in
+    let same = ap (λ (d : Ended). last_fault d) done.ends in
+    rose-by-one (disk_faults done.session.rounds) outside.disk.faults_before outside.disk.faults_now
+    (fault-counted done.session.rounds done.session.last_from (sym same ∙ fault)) done.faults.rose
+status-disk words outside ended (Err refusal) is refused e =
+    let nine = sym (refused-status refusal outside.sink ended refused.0) ∙ e in
+    caused words outside.settings outside.system outside.script outside.disk refusal 9 (Rose outside.disk.faults_before outside.disk.faults_now) (omega arith) nine
+    (nine-rose words outside.settings outside.system outside.script outside.disk refusal nine) is
+
+pub run-disk : (words : List (List ℕ)) (outside : Outside) (ended : Ended) → IsRun words outside ended → ended.status ≡ 9 → Rose outside.disk.faults_before outside.disk.faults_now
+run-disk words outside ended run e = status-disk words outside ended run.opened run.opening run.ends e

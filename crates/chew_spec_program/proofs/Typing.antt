@@ -62,45 +62,6 @@ finished_turn system pending heard = record {
   editor = (finish system pending heard).editor;
 }
 
-enough_turn : (enough : Bool) (finished turn : Turn) → cond enough (Some finished) None ≡ Some turn → finished ≡ turn
-enough_turn true finished turn e = cc
-enough_turn false finished turn e = absurd cc
-
--- a key's turn is what it makes of an editor alone
-pub pressed_turn : (system : List Row) (had : Alone) (pressed : Pressed) (turn : Turn)
-    → turn_after system pressed (heard_alone had.point turn.calls) ≡ Some turn → after_pressed system had pressed ≡ with_turn had turn
-pressed_turn system had (Done editor line) turn e =
-    let same : record { calls = []; line = line; editor = editor } ≡ turn = cc in
-    ap₂ (λ (calls : List Call) (heard : List Reply). record { editor = editor; point = had.point; calls = calls; replies = heard; lines = had.lines ++ line ∷ [] })
-    (sym (append-nil had.calls)) (sym (append-nil had.replies))
-    ∙ ap (with_turn had) same
-pressed_turn system had (Ask pending) turn e =
-    let calls : List Call = calls_of pending in
-    let same : finished_turn system pending (take (length calls) (heard_alone had.point turn.calls)) ≡ turn =
-    enough_turn (nat_le (length calls) (length (heard_alone had.point turn.calls))) _ turn e in
-    let theirs : calls ≡ turn.calls = ap (λ (t : Turn). t.calls) same in
-    let all : take (length calls) (heard_alone had.point turn.calls) ≡ replies_from had.point calls =
-    ap (λ (l : List Call). take (length calls) (heard_alone had.point l)) (sym theirs)
-    ∙ ap (take (length calls)) (heard-replies had.point calls)
-    ∙ take_all (length calls) (replies_from had.point calls) (omega (arith, length-replies had.point calls)) in
-    ap₂ (λ (point : Point) (heard : List Reply). record {
-      editor = (finish system pending (replies_from had.point calls)).editor;
-      point = point;
-      calls = had.calls ++ calls;
-      replies = had.replies ++ heard;
-      lines = had.lines ++ (finish system pending (replies_from had.point calls)).line ∷ [];
-    }) (sym (after-point had.point calls)) (sym (heard-replies had.point calls))
-    ∙ ap (λ (heard : List Reply). with_turn had (finished_turn system pending heard)) (sym all)
-    ∙ ap (with_turn had) same
-
--- the same behind the keys that it typed
-pub typed_more : (basis : Basis) (keys : List KeyStroke) (key : KeyStroke) (turn : Turn)
-    → turn_of basis.system (typed_over basis keys).editor key (heard_alone (typed_over basis keys).point turn.calls) ≡ Some turn
-    → typed_over basis (keys ++ key ∷ []) ≡ with_turn (typed_over basis keys) turn
-typed_more basis keys key turn e =
-    one_more basis.system (record { editor = empty_editor basis.settings; point = basis.start; calls = []; replies = []; lines = [] }) keys key
-    ∙ pressed_turn basis.system (typed_over basis keys) (press basis.system (typed_over basis keys).editor key) turn e
-
 -- a line more, and whether it committed something
 pub commits_more : (lines : List Line) (line : Line) → count_by has_commit (lines ++ line ∷ []) ≡ count_by has_commit lines + cond (has_commit line) 1 0
 commits_more lines line =

@@ -78,11 +78,27 @@ unfoldable pub command_of : List (List ℕ) → Option Command
 command_of [] = None
 command_of (name ∷ words) = named name words
 
--- a run without the trace, by the standard settings or those of a file
-abbrev pub is_plain_run : Option Command → Bool
-is_plain_run (Some (Run false system script folder settings)) = true
-is_plain_run _ = false
+-- the command is a run
+abbrev pub is_run : Option Command → Bool
+is_run (Some (Run trace system script folder settings)) = true
+is_run _ = false
 
--- the words are those of such a run
+-- a run that asks for the trace of its calls
+abbrev pub has_trace : Option Command → Bool
+has_trace (Some (Run trace system script folder settings)) = trace
+has_trace _ = false
+
+-- a run that names settings
+abbrev pub has_settings : Option Command → Bool
+has_settings (Some (Run trace system script folder (Some settings))) = true
+has_settings _ = false
+
+-- the words are those of a run; of one that asks for the trace; of one that names settings
 abbrev pub is_run_command : List (List ℕ) → Bool
-is_run_command words = is_plain_run (command_of words)
+is_run_command words = is_run (command_of words)
+
+abbrev pub asks_trace : List (List ℕ) → Bool
+asks_trace words = has_trace (command_of words)
+
+abbrev pub names_settings : List (List ℕ) → Bool
+names_settings words = has_settings (command_of words)

@@ -1,6 +1,7 @@
 pub mod Answer
 pub mod Build
 pub mod Command
+pub mod Crash
 pub mod ImageRows
 pub mod Make
 pub mod Opening
@@ -9,5 +10,7 @@ pub mod Reading
 pub mod Refusal
 pub mod Run
 pub mod Sample
+pub mod SampleFaults
 pub mod SampleRun
+pub mod Slots
 pub mod Writing

@@ -1,8 +1,10 @@
 -- What `make` does: one editor types the script that is generated for a number, and what came of it is counted.
-use Rattle.std.specs.Prelude.{◌≡◌, ◌⊎◌, ℕ, ◌*◌, Bool, not, List, ◌∷◌, ◌++◌, codes, count_by, decimal, length, map, ◌==◌, Result, Ok, Err}
+use Rattle.std.specs.Prelude.{◌≡◌, ◌⊎◌, ℕ, ◌*◌, Bool, not, List, [], ◌∷◌, ◌++◌, codes, count_by, decimal, length, map, ◌==◌, Result, Ok, Err}
+use Rattle.chew_spec_syllable.specs.Row.{image_cmp}
 use Rattle.chew_spec_dictionary.specs.Call.{Call}
 use Rattle.chew_spec_dictionary.specs.FiveRows.{five_rows}
-use Rattle.chew_spec_dictionary.specs.History.{Entry}
+use Rattle.chew_spec_dictionary.specs.History.{Entry, start_of}
+use Rattle.chew_spec_dictionary.specs.Order.{in_order}
 use Rattle.chew_spec_text.specs.KeyStroke.{KeyStroke}
 use Rattle.chew_spec_text.specs.Line.{Line, with_line_feed}
 use Rattle.chew_spec_editor.specs.Alone.{Alone, alone}
@@ -11,13 +13,16 @@ use Rattle.chew_spec_editor.specs.Settings.{standard_settings}
 use Rattle.chew_spec_generator.specs.Generator.{generated_keys, line_count, line_steps}
 use Rattle.chew_spec_program.specs.Answer.{Tells}
 use Rattle.chew_spec_session.specs.Context.{Basis}
-use Rattle.chew_spec_program.specs.Opening.{basis_of}
 use Rattle.chew_spec_program.specs.Refusal.{Refusal, NoMemory}
 use Rattle.chew_spec_program.specs.Writing.{Sunk}
 
 -- it types with the standard settings, over the five rows and a dictionary without a pair
 abbrev pub make_basis : Basis
-make_basis = basis_of standard_settings five_rows
+make_basis = record {
+  system = in_order image_cmp five_rows;
+  settings = standard_settings;
+  start = start_of (record { pairs = []; life = 0; cap = standard_settings.cap });
+}
 
 -- an editor alone that typed these keys
 abbrev pub typed_over : Basis → List KeyStroke → Alone

@@ -49,8 +49,13 @@ pub data Refusal : Type 0 where
   WrongScript : (fault : Fault ScriptCause) → Refusal
   -- the system is no image: its first faulty place
   WrongImage : (place : ℕ) → Refusal
+  -- a slot of the disk is longer than 2^28 bytes, with its length; or it is open and damaged, at its first faulty place
+  SlotTooLarge : (slot len : ℕ) → Refusal
+  SlotDamaged : (slot place : ℕ) → Refusal
   -- a source failed
   SourceFailed : Refusal
+  -- the disk failed
+  DiskFailed : Refusal
   -- memory was wanting
   NoMemory : Refusal
 
@@ -62,6 +67,10 @@ fault_line input line word = input ++ (32 ∷ (decimal line ++ (32 ∷ with_line
 abbrev pub setting_line : List ℕ → List ℕ → List ℕ
 setting_line key word = codes "settings" ++ (32 ∷ (key ++ (32 ∷ with_line_feed word)))
 
+-- the number of a slot, what is wrong with it, and a number of bytes
+abbrev pub slot_line : ℕ → List ℕ → ℕ → List ℕ
+slot_line slot wrong number = codes "slot " ++ (decimal slot ++ (32 ∷ (wrong ++ (32 ∷ with_line_feed (decimal number)))))
+
 -- the line that tells a refusal
 abbrev pub refusal_line : Refusal → List ℕ
 refusal_line WrongWords = with_line_feed (codes "words")
@@ -69,7 +78,10 @@ refusal_line (WrongSettings fault) = setting_line (setting_word fault.key) (sett
 refusal_line (WrongSystem fault) = fault_line (codes "system") fault.line (row_cause_word fault.cause)
 refusal_line (WrongScript fault) = fault_line (codes "script") fault.line (script_cause_word fault.cause)
 refusal_line (WrongImage place) = codes "system image " ++ with_line_feed (decimal place)
+refusal_line (SlotTooLarge slot len) = slot_line slot (codes "too large") len
+refusal_line (SlotDamaged slot place) = slot_line slot (codes "damaged") place
 refusal_line SourceFailed = with_line_feed (codes "source")
+refusal_line DiskFailed = with_line_feed (codes "disk")
 refusal_line NoMemory = with_line_feed (codes "memory")
 
 -- the status of a refused run
@@ -79,5 +91,8 @@ refusal_status (WrongSettings fault) = 3
 refusal_status (WrongSystem fault) = 4
 refusal_status (WrongScript fault) = 5
 refusal_status (WrongImage place) = 4
+refusal_status (SlotTooLarge slot len) = 6
+refusal_status (SlotDamaged slot place) = 6
 refusal_status SourceFailed = 7
+refusal_status DiskFailed = 9
 refusal_status NoMemory = 10

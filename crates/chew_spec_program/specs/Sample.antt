@@ -1,14 +1,18 @@
 -- What laws speak of: a run over the five rows, and two contexts whose calls stand among each other.
 use Rattle.std.specs.Prelude.{ℕ, List, [], ◌∷◌, ◌++◌, codes, map}
+use Rattle.chew_spec_syllable.specs.Row.{image_cmp}
 use Rattle.chew_spec_dictionary.specs.Call.{Learn, Look}
 use Rattle.chew_spec_dictionary.specs.FiveRows.{ce4, five_rows, shi4}
 use Rattle.chew_spec_dictionary.specs.History.{Entry}
+use Rattle.chew_spec_dictionary.specs.Order.{in_order}
 use Rattle.chew_spec_text.specs.KeyStroke.{KeyStroke, Char, Home, Down}
 use Rattle.chew_spec_text.specs.Line.{Line, Quiet}
 use Rattle.chew_spec_text.specs.Sample.{bytes_of}
 use Rattle.chew_spec_editor.specs.Settings.{standard_settings}
 use Rattle.chew_spec_session.specs.Context.{Basis}
-use Rattle.chew_spec_program.specs.Opening.{basis_of}
+use Rattle.chew_spec_slots.specs.Slot.{no_checkpoint}
+use Rattle.chew_spec_program.specs.Opening.{start_from}
+use Rattle.chew_spec_program.specs.Slots.{Slots}
 
 -- the words of a run
 abbrev pub run_words : List (List ℕ)
@@ -18,9 +22,17 @@ run_words = codes "run" ∷ (codes "s" ∷ (codes "k" ∷ (codes "f" ∷ [])))
 abbrev pub words_with_settings : List (List ℕ)
 words_with_settings = run_words ++ codes "t" ∷ []
 
--- what a run over the five rows stands on
+-- and those of one that asks for the trace
+abbrev pub words_with_trace : List (List ℕ)
+words_with_trace = run_words ++ codes "--trace" ∷ []
+
+-- two slots of which nothing was ever written
+abbrev pub empty_slots : Slots
+empty_slots = record { zero = []; one = [] }
+
+-- what a run over the five rows stands on, where nothing was ever learnt
 abbrev pub five_basis : Basis
-five_basis = basis_of standard_settings five_rows
+five_basis = record { system = in_order image_cmp five_rows; settings = standard_settings; start = start_from standard_settings no_checkpoint }
 
 -- a quiet line with this pre-edit text, column, and text that the layout holds
 abbrev pub plain_line : List ℕ → ℕ → List ℕ → Line

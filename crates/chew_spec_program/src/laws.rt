@@ -3,7 +3,9 @@
 mod answers;
 mod command;
 mod context;
+mod crash;
 mod journal;
+mod known_faults;
 mod known_run;
 mod make;
 mod opened;

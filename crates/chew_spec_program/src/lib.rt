@@ -1,4 +1,4 @@
-//! Definitions of the whole program: its words, what it reads and writes, and what a run is.
+//! Definitions of the whole program: its words, what it reads, writes and keeps, and what a run is.
 #![tactic(auto)]
 
 mod laws;

@@ -5,4 +5,4 @@ use Rattle.chew_spec_program.proofs.laws.output.known_header.Goals as goal
 
 pub returns : goal.returns
 unfolding digits
-returns c = record { first = refl }
+returns c = record { first = refl; last = refl }

@@ -1,0 +1,34 @@
+-- Each value computes.
+use Rattle.std.proofs.Common.{refl}
+use lib.Utf8.{encode}
+use Rattle.std.specs.Fmt.{digits}
+use Rattle.std.specs.Str.{chars, is_utf8}
+use Rattle.chew_spec_syllable.specs.Phrase.{is_phrase}
+use Rattle.chew_spec_syllable.specs.SyllableText.{syllable_reading}
+use Rattle.chew_spec_image.specs.Fields.{node_at, row_at}
+use Rattle.chew_spec_image.specs.Reading.{image_reading}
+use Rattle.chew_spec_text.specs.DictionaryText.{dictionary_rows}
+use Rattle.chew_spec_text.specs.KeyStroke.{keys_in}
+use Rattle.chew_spec_slots.specs.Reading.{saved_in}
+use Rattle.chew_spec_slots.specs.Recovery.{recovered}
+use Rattle.chew_spec_program.specs.Command.{command_of}
+use Rattle.chew_spec_settings.proofs.Computing.{settings_on_literals}
+use Rattle.chew_spec_program.specs.Opening.{opening}
+use Rattle.chew_spec_text.specs.Script.{script_of}
+use Rattle.chew_spec_program.proofs.laws.opening.known_starts.Goals as goal
+
+pub returns-clause-one : goal.returns-clause-one
+unfolding command_of opening dictionary_rows is_phrase is_utf8 chars syllable_reading encode script_of keys_in digits image_reading node_at row_at recovered saved_in settings_on_literals
+returns-clause-one c = refl
+
+pub returns-clause-newer : goal.returns-clause-newer
+unfolding command_of opening dictionary_rows is_phrase is_utf8 chars syllable_reading encode script_of keys_in digits image_reading node_at row_at recovered saved_in settings_on_literals
+returns-clause-newer c = refl
+
+pub returns-clause-damaged : goal.returns-clause-damaged
+unfolding command_of opening dictionary_rows is_phrase is_utf8 chars syllable_reading encode script_of keys_in digits image_reading node_at row_at recovered saved_in settings_on_literals
+returns-clause-damaged c = refl
+
+pub returns-clause-first : goal.returns-clause-first
+unfolding command_of opening dictionary_rows is_phrase is_utf8 chars syllable_reading encode script_of keys_in digits image_reading node_at row_at recovered saved_in settings_on_literals
+returns-clause-first c = refl

@@ -1,0 +1,8 @@
+-- Each value computes.
+use Rattle.std.proofs.Common.{refl}
+use Rattle.std.specs.Fmt.{digits}
+use Rattle.chew_spec_program.proofs.laws.output.known_round_lines.Goals as goal
+
+pub returns : goal.returns
+unfolding digits
+returns c = record { saved = refl; saved_none = refl; fault = refl; memory = refl; spent = refl }
