@@ -1,9 +1,6 @@
-pub mod Answered
-pub mod Calls
-pub mod Contexts
-pub mod Ends
 pub mod Openings
+pub mod Printing
 pub mod Reading
+pub mod Recovered
+pub mod Runs
 pub mod Sent
-pub mod Talking
-pub mod Turned

@@ -1,65 +1,34 @@
--- What the inputs of a run give.
+-- What the opening of a run gives: the first refusal, or the inputs.
 use Rattle.std.specs.Prelude.{◌≡◌, ℕ, Bool, true, false, ◌&&◌, List, Option, Some, None, Result, Ok, Err, is_ok}
-use Rattle.std.proofs.Common.{refl, ap, sym, subst, inl, inr, ◌∙◌, ⊎_elim, true≢false}
+use Rattle.std.proofs.Common.{refl, ap, sym, inl, inr, ◌∙◌, ⊎_elim, arith, true≢false}
 use Rattle.std.proofs.lemmas.Bool.{cond-true, cond-false}
-use Rattle.chew_spec_syllable.specs.Row.{Row, image_cmp}
-use Rattle.chew_spec_dictionary.specs.History.{Point}
-use Rattle.chew_spec_dictionary.specs.Order.{in_order}
-use Rattle.chew_spec_text.specs.DictionaryText.{RowCause, dictionary_rows, system_limit}
-use Rattle.chew_spec_text.specs.Lines.{Fault}
+use Rattle.chew_spec_syllable.specs.Row.{Row}
+use Rattle.chew_spec_text.specs.DictionaryText.{system_limit}
 use Rattle.chew_spec_text.specs.Script.{Script, script_of, script_limit}
-use Rattle.chew_spec_editor.specs.Settings.{Settings, standard_settings}
-use Rattle.chew_spec_settings.specs.SettingsText.{settings_limit, settings_of}
-use Rattle.chew_spec_program.specs.Command.{is_run_command}
-use Rattle.chew_spec_program.specs.Opening.{Inputs, IsOpening, inputs_of, names_settings, nothing_learnt, opening, or_refusal, script_value, settings_value, system_value, value_or_refusal}
-use Rattle.chew_spec_program.specs.Reading.{IsReadWhere, IsUnread, Watched}
-use Rattle.chew_spec_program.specs.Refusal.{Refusal, NoMemory, SourceFailed, WrongScript, WrongSettings, WrongSystem, WrongWords}
-use Rattle.chew_spec_program.proofs.Opened.{named-run}
-use Rattle.chewing_cli.specs.Opens.{Reads, ReadsOrNoMemory, Sets, SetsOrNoMemory, in_image_order, system_rows}
-use Rattle.chewing_cli.specs.Progress.{basis_over}
+use Rattle.chew_spec_disk.specs.Disk.{DiskState}
+use Rattle.chew_spec_editor.specs.Settings.{Settings}
+use Rattle.chew_spec_settings.specs.SettingsText.{settings_limit}
+use Rattle.chew_spec_program.specs.Command.{Command, Run, Build, Check, Dump, Make, command_of, has_settings, is_run, is_run_command, names_settings}
+use Rattle.chew_spec_program.specs.Opening.{Found, IsOpening, inputs_of, opening, or_refusal, reads_script, reads_slots, reads_system}
+use Rattle.chew_spec_program.specs.Opening.{script_value, settings_value, slots_value, system_rows, system_value}
+use Rattle.chew_spec_program.specs.Reading.{IsRead, IsReadWhere, IsUnread, Watched, watched}
+use Rattle.chew_spec_program.specs.Refusal.{Refusal, NoMemory, WrongScript, WrongWords}
+use Rattle.chew_spec_program.specs.Slots.{AreRead, AreReadWhere, IsUncalled, IsUnwritten, Kept, Slots, kept}
+use Rattle.chewing_cli.specs.Opens.{Finds, FindsOrNoMemory, Reads, ReadsOrNoMemory, Sets, SetsOrNoMemory}
 
--- the inputs of these settings, these rows and what a script says, or the refusal of the script
-abbrev pub with_rows : Settings → List Row → Result Script Refusal → Result Inputs Refusal
-with_rows settings rows (Ok script) = Ok (record { basis = basis_over settings rows (nothing_learnt settings); script = script })
-with_rows settings rows (Err refusal) = Err refusal
-
--- rows in image order are given to the inputs
-ordered_given : (set : Settings) (o : Result (List Row) (Fault RowCause)) (rows : List Row) (script : Result Script Refusal)
-    → Ok rows ≡ or_refusal WrongSystem (in_image_order o) → with_rows set rows script ≡ inputs_of (Ok set) (or_refusal WrongSystem o) script
-ordered_given set (Err fault) rows script e = absurd cc
-ordered_given set (Ok had) rows (Ok script) e =
-    let same : rows ≡ in_order image_cmp had = cc in ap (λ (l : List Row). Ok (record { basis = basis_over set l (nothing_learnt set); script = script })) same
-ordered_given set (Ok had) rows (Err refusal) e = refl
-
-rows_given : (set : Settings) (text : Option (List ℕ)) (rows : List Row) (script : Result Script Refusal)
-    → Ok rows ≡ value_or_refusal system_rows WrongSystem text → with_rows set rows script ≡ inputs_of (Ok set) (system_value text) script
-rows_given set None rows script e = absurd cc
-rows_given set (Some text) rows script e = ordered_given set (dictionary_rows text) rows script e
-
--- there are such rows
-ordered_ok : (o : Result (List Row) (Fault RowCause)) (rows : List Row) → Ok rows ≡ or_refusal WrongSystem (in_image_order o) → is_ok (or_refusal WrongSystem o) ≡ true
-ordered_ok (Err fault) rows e = absurd cc
-ordered_ok (Ok had) rows e = refl
-
-rows_ok : (text : Option (List ℕ)) (rows : List Row) → Ok rows ≡ value_or_refusal system_rows WrongSystem text → is_ok (system_value text) ≡ true
-rows_ok None rows e = absurd cc
-rows_ok (Some text) rows e = ordered_ok (dictionary_rows text) rows e
-
--- a refusal of the system is that of the inputs
-ordered_refused : (set : Settings) (o : Result (List Row) (Fault RowCause)) (refusal : Refusal) (script : Result Script Refusal)
-    → Err refusal ≡ or_refusal WrongSystem (in_image_order o)
-    → (Err refusal ≡ inputs_of (Ok set) (or_refusal WrongSystem o) script) × (is_ok (or_refusal WrongSystem o) ≡ false)
-ordered_refused set (Err fault) refusal script e = let same : refusal ≡ WrongSystem fault = cc in (ap Err same, refl)
-ordered_refused set (Ok had) refusal script e = absurd cc
-
-rows_refused : (set : Settings) (text : Option (List ℕ)) (refusal : Refusal) (script : Result Script Refusal)
-    → Err refusal ≡ value_or_refusal system_rows WrongSystem text → (Err refusal ≡ inputs_of (Ok set) (system_value text) script) × (is_ok (system_value text) ≡ false)
-rows_refused set None refusal script e = let same : refusal ≡ SourceFailed = cc in (ap Err same, refl)
-rows_refused set (Some text) refusal script e = ordered_refused set (dictionary_rows text) refusal script e
-
--- what was not read
+-- what was read where it is, and what was not
 unread : (reads : Bool) (source : Watched) (limit : ℕ) (text : Option (List ℕ)) → reads ≡ false → IsUnread source → IsReadWhere reads source limit text
 unread reads source limit text e is = record { read = λ was. absurd (true≢false (sym was ∙ e)); unread = λ _. is }
+
+was_read : (reads : Bool) (source : Watched) (limit : ℕ) (text : Option (List ℕ)) → reads ≡ true → IsRead source limit text
+    → IsReadWhere reads source limit text
+was_read reads source limit text e is = record { read = λ _. is; unread = λ wrong. absurd (true≢false (sym e ∙ wrong)) }
+
+uncalled : (reads : Bool) (disk : Kept) (slots : Option Slots) → reads ≡ false → IsUncalled disk → AreReadWhere reads disk slots
+uncalled reads disk slots e is = record { read = λ was. absurd (true≢false (sym was ∙ e)); unread = λ _. is }
+
+called : (reads : Bool) (disk : Kept) (slots : Option Slots) → reads ≡ true → AreRead disk slots → AreReadWhere reads disk slots
+called reads disk slots e is = record { read = λ _. is; unread = λ wrong. absurd (true≢false (sym e ∙ wrong)) }
 
 both : (a b : Bool) (v : Bool) → a ≡ true → b ≡ v → (a && b) ≡ v
 both true b v e f = f
@@ -69,134 +38,183 @@ first_false : (a b : Bool) → a ≡ false → (a && b) ≡ false
 first_false true b e = absurd (true≢false e)
 first_false false b e = refl
 
--- settings that were read
-set_ok : (named : Bool) (text : Option (List ℕ)) (set : Settings) → Ok set ≡ settings_value named text → is_ok (settings_value named text) ≡ true
-set_ok named text set e = ap is_ok (sym e)
+-- a value, and a refusal
+is_value : {X : Type 0} (outcome : Result X Refusal) (value : X) → Ok value ≡ outcome → is_ok outcome ≡ true
+is_value outcome value e = ap is_ok (sym e)
 
-set_refused : (named : Bool) (text : Option (List ℕ)) (refusal : Refusal) → Err refusal ≡ settings_value named text → is_ok (settings_value named text) ≡ false
-set_refused named text refusal e = ap is_ok (sym e)
+is_refused : {X : Type 0} (outcome : Result X Refusal) (refusal : Refusal) → Err refusal ≡ outcome → is_ok outcome ≡ false
+is_refused outcome refusal e = ap is_ok (sym e)
+
+-- only a run names settings
+unnamed : (command : Option Command) → is_run command ≡ false → has_settings command ≡ false
+unnamed None e = refl
+unnamed (Some (Run trace system script folder settings)) e = absurd (true≢false e)
+unnamed (Some (Build from to)) e = refl
+unnamed (Some (Check from)) e = refl
+unnamed (Some (Dump from)) e = refl
+unnamed (Some (Make number)) e = refl
 
 -- wrong words come first
-pub opens_words : (words : List (List ℕ)) (settings system script : Watched) → is_run_command words ≡ false → IsUnread settings → IsUnread system → IsUnread script
-    → IsOpening words settings system script (Err WrongWords)
+pub opens_words : (words : List (List ℕ)) (settings system script : Watched) (disk : Kept) → is_run_command words ≡ false
+    → IsUnread settings → IsUnread system → IsUnread script → IsUncalled disk → IsOpening words settings system script disk (Err WrongWords)
 unfolding opening
-opens_words words settings system script e unread_settings unread_system unread_script = inl (record {
-  settings_text = None;
-  system_text = None;
-  script_text = None;
-  settings_read = unread (names_settings words) settings settings_limit None (named-run words e) unread_settings;
-  system_read = unread (is_run_command words && is_ok (settings_value (names_settings words) None)) system system_limit None (first_false (is_run_command words) _ e) unread_system;
-  script_read = unread (is_run_command words && (is_ok (settings_value (names_settings words) None) && false)) script script_limit None
-      (first_false (is_run_command words) _ e) unread_script;
-  gives = sym (cond-false _ _ _ e);
-})
+opens_words words settings system script disk e unread_settings unread_system unread_script not_called =
+    let no_system : reads_system words None ≡ false = first_false (is_run_command words) (is_ok (settings_value (names_settings words) None)) e in
+    let no_script : reads_script words None None ≡ false = first_false (reads_system words None) false no_system in
+    let no_slots : reads_slots words None None None ≡ false = first_false (reads_script words None None) false no_script in
+    inl (record {
+      settings_text = None;
+      system_text = None;
+      script_text = None;
+      slots = None;
+      settings_read = unread (names_settings words) settings settings_limit None (unnamed (command_of words) e) unread_settings;
+      system_read = unread (reads_system words None) system system_limit None no_system unread_system;
+      script_read = unread (reads_script words None None) script script_limit None no_script unread_script;
+      slots_read = uncalled (reads_slots words None None None) disk None no_slots not_called;
+      gives = sym (cond-false _ _ _ e);
+    })
 
 -- then a refusal of the settings
-pub opens_settings : (words : List (List ℕ)) (settings system script : Watched) (refusal : Refusal) → is_run_command words ≡ true → IsUnread system → IsUnread script
-    → SetsOrNoMemory (names_settings words) settings (Err refusal) → IsOpening words settings system script (Err refusal)
+pub opens_settings : (words : List (List ℕ)) (settings system script : Watched) (disk : Kept) (refusal : Refusal) → is_run_command words ≡ true
+    → IsUnread system → IsUnread script → IsUncalled disk
+    → SetsOrNoMemory (names_settings words) settings (Err refusal) → IsOpening words settings system script disk (Err refusal)
 unfolding opening
-opens_settings words settings system script refusal e unread_system unread_script sets =
+opens_settings words settings system script disk refusal e unread_system unread_script not_called sets =
     ⊎_elim (λ none. inr (record { command = e; refused = let same : refusal ≡ NoMemory = cc in ap Err same }))
     (λ (was : Sets (names_settings words) settings (Err refusal)).
-    let refused = set_refused (names_settings words) was.text refusal was.gives in
+    let no_system : reads_system words was.text ≡ false =
+    both (is_run_command words) (is_ok (settings_value (names_settings words) was.text)) false e (is_refused _ refusal was.gives) in
+    let no_script : reads_script words was.text None ≡ false = first_false (reads_system words was.text) false no_system in
+    let no_slots : reads_slots words was.text None None ≡ false = first_false (reads_script words was.text None) false no_script in
     inl (record {
       settings_text = was.text;
       system_text = None;
       script_text = None;
+      slots = None;
       settings_read = was.read;
-      system_read = unread (is_run_command words && is_ok (settings_value (names_settings words) was.text)) system system_limit None
-          (both (is_run_command words) (is_ok (settings_value (names_settings words) was.text)) false e refused) unread_system;
-      script_read = unread (is_run_command words && (is_ok (settings_value (names_settings words) was.text) && false)) script script_limit None
-          (both (is_run_command words) _ false e (first_false (is_ok (settings_value (names_settings words) was.text)) false refused)) unread_script;
-      gives = ap (λ (s : Result Settings Refusal). inputs_of s (system_value None) (script_value None)) was.gives ∙ sym (cond-true _ _ _ e);
+      system_read = unread (reads_system words was.text) system system_limit None no_system unread_system;
+      script_read = unread (reads_script words was.text None) script script_limit None no_script unread_script;
+      slots_read = uncalled (reads_slots words was.text None None) disk None no_slots not_called;
+      gives = ap (λ (s : Result Settings Refusal). inputs_of s (system_value None) (script_value None) (slots_value None)) was.gives ∙ sym (cond-true _ _ _ e);
     })) sets
 
 -- then a refusal of the system
-pub opens_system : (words : List (List ℕ)) (settings system script : Watched) (set : Settings) (refusal : Refusal) → is_run_command words ≡ true → IsUnread script
-    → SetsOrNoMemory (names_settings words) settings (Ok set) → ReadsOrNoMemory system_rows WrongSystem system_limit system (Err refusal)
-    → IsOpening words settings system script (Err refusal)
+pub opens_system : (words : List (List ℕ)) (settings system script : Watched) (disk : Kept) (set : Settings) (refusal : Refusal) → is_run_command words ≡ true
+    → IsUnread script → IsUncalled disk
+    → SetsOrNoMemory (names_settings words) settings (Ok set) → ReadsOrNoMemory system_rows system_limit system (Err refusal)
+    → IsOpening words settings system script disk (Err refusal)
 unfolding opening
-opens_system words settings system script set refusal e unread_script sets reads =
+opens_system words settings system script disk set refusal e unread_script not_called sets reads =
     ⊎_elim (λ none. absurd (cc none))
     (λ (had : Sets (names_settings words) settings (Ok set)).
     ⊎_elim (λ none. inr (record { command = e; refused = let same : refusal ≡ NoMemory = cc in ap Err same }))
-    (λ (was : Reads system_rows WrongSystem system_limit system (Err refusal)).
-    let refused = rows_refused set was.text refusal (script_value None) was.gives in
-    let given = set_ok (names_settings words) had.text set had.gives in
+    (λ (was : Reads system_rows system_limit system (Err refusal)).
+    let a_system : reads_system words had.text ≡ true =
+    both (is_run_command words) (is_ok (settings_value (names_settings words) had.text)) true e (is_value _ set had.gives) in
+    let no_script : reads_script words had.text was.text ≡ false =
+    both (reads_system words had.text) (is_ok (system_value was.text)) false a_system (is_refused _ refusal was.gives) in
+    let no_slots : reads_slots words had.text was.text None ≡ false = first_false (reads_script words had.text was.text) false no_script in
     inl (record {
       settings_text = had.text;
       system_text = was.text;
       script_text = None;
+      slots = None;
       settings_read = had.read;
-      system_read = record {
-        read = λ _. was.read;
-        unread = λ wrong. absurd (true≢false (sym (both (is_run_command words) (is_ok (settings_value (names_settings words) had.text)) true e given) ∙ wrong));
-      };
-      script_read = unread (is_run_command words && (is_ok (settings_value (names_settings words) had.text) && is_ok (system_value was.text))) script script_limit None
-          (both (is_run_command words) _ false e (both (is_ok (settings_value (names_settings words) had.text)) (is_ok (system_value was.text)) false given refused.1)) unread_script;
-      gives = refused.0 ∙ ap (λ (s : Result Settings Refusal). inputs_of s (system_value was.text) (script_value None)) had.gives ∙ sym (cond-true _ _ _ e);
+      system_read = was_read (reads_system words had.text) system system_limit was.text a_system was.read;
+      script_read = unread (reads_script words had.text was.text) script script_limit None no_script unread_script;
+      slots_read = uncalled (reads_slots words had.text was.text None) disk None no_slots not_called;
+      gives =
+          ap (λ (y : Result (List Row) Refusal). inputs_of (Ok set) y (script_value None) (slots_value None)) was.gives
+          ∙ ap (λ (s : Result Settings Refusal). inputs_of s (system_value was.text) (script_value None) (slots_value None)) had.gives
+          ∙ sym (cond-true _ _ _ e);
     })) reads) sets
 
--- then the script, where the system gave its rows
-script_gives : (set : Settings) (rows : List Row) (named : Bool) (settings system : Option (List ℕ)) (said : Result Script Refusal) (script : Option (List ℕ))
-    → Ok set ≡ settings_value named settings → Ok rows ≡ value_or_refusal system_rows WrongSystem system → said ≡ script_value script
-    → with_rows set rows said ≡ inputs_of (settings_value named settings) (system_value system) (script_value script)
-script_gives set rows named settings system said script d e f =
-    rows_given set system rows said e ∙ ap (inputs_of (Ok set) (system_value system)) f
-    ∙ ap (λ (s : Result Settings Refusal). inputs_of s (system_value system) (script_value script)) d
-
-pub opens_script : (words : List (List ℕ)) (settings system script : Watched) (set : Settings) (rows : List Row) (said : Result Script Refusal) → is_run_command words ≡ true
-    → SetsOrNoMemory (names_settings words) settings (Ok set) → ReadsOrNoMemory system_rows WrongSystem system_limit system (Ok rows)
-    → ReadsOrNoMemory script_of WrongScript script_limit script said → IsOpening words settings system script (with_rows set rows said)
+-- then a refusal of the script
+pub opens_script : (words : List (List ℕ)) (settings system script : Watched) (disk : Kept) (set : Settings) (rows : List Row) (refusal : Refusal)
+    → is_run_command words ≡ true → IsUncalled disk
+    → SetsOrNoMemory (names_settings words) settings (Ok set) → ReadsOrNoMemory system_rows system_limit system (Ok rows)
+    → ReadsOrNoMemory (λ text. or_refusal WrongScript (script_of text)) script_limit script (Err refusal)
+    → IsOpening words settings system script disk (Err refusal)
 unfolding opening
-opens_script words settings system script set rows said e sets reads keys =
+opens_script words settings system script disk set rows refusal e not_called sets reads keys =
     ⊎_elim (λ none. absurd (cc none))
     (λ (had : Sets (names_settings words) settings (Ok set)).
     ⊎_elim (λ none. absurd (cc none))
-    (λ (was : Reads system_rows WrongSystem system_limit system (Ok rows)).
-    ⊎_elim (λ none. inr (record { command = e; refused = ap (with_rows set rows) none }))
-    (λ (also : Reads script_of WrongScript script_limit script said).
-    let given = set_ok (names_settings words) had.text set had.gives in
-    let found = rows_ok was.text rows was.gives in
+    (λ (was : Reads system_rows system_limit system (Ok rows)).
+    ⊎_elim (λ none. inr (record { command = e; refused = let same : refusal ≡ NoMemory = cc in ap Err same }))
+    (λ (also : Reads (λ text. or_refusal WrongScript (script_of text)) script_limit script (Err refusal)).
+    let a_system : reads_system words had.text ≡ true =
+    both (is_run_command words) (is_ok (settings_value (names_settings words) had.text)) true e (is_value _ set had.gives) in
+    let a_script : reads_script words had.text was.text ≡ true =
+    both (reads_system words had.text) (is_ok (system_value was.text)) true a_system (is_value _ rows was.gives) in
+    let no_slots : reads_slots words had.text was.text also.text ≡ false =
+    both (reads_script words had.text was.text) (is_ok (script_value also.text)) false a_script (is_refused _ refusal also.gives) in
     inl (record {
       settings_text = had.text;
       system_text = was.text;
       script_text = also.text;
+      slots = None;
       settings_read = had.read;
-      system_read = record {
-        read = λ _. was.read;
-        unread = λ wrong. absurd (true≢false (sym (both (is_run_command words) (is_ok (settings_value (names_settings words) had.text)) true e given) ∙ wrong));
-      };
-      script_read = record {
-        read = λ _. also.read;
-        unread = λ wrong. absurd (true≢false (sym (both (is_run_command words) _ true e
-            (both (is_ok (settings_value (names_settings words) had.text)) (is_ok (system_value was.text)) true given found)) ∙ wrong));
-      };
-      gives = script_gives set rows (names_settings words) had.text was.text said also.text had.gives was.gives also.gives ∙ sym (cond-true _ _ _ e);
+      system_read = was_read (reads_system words had.text) system system_limit was.text a_system was.read;
+      script_read = was_read (reads_script words had.text was.text) script script_limit also.text a_script also.read;
+      slots_read = uncalled (reads_slots words had.text was.text also.text) disk None no_slots not_called;
+      gives =
+          ap (λ (k : Result Script Refusal). inputs_of (Ok set) (Ok rows) k (slots_value None)) also.gives
+          ∙ ap (λ (y : Result (List Row) Refusal). inputs_of (Ok set) y (script_value also.text) (slots_value None)) was.gives
+          ∙ ap (λ (s : Result Settings Refusal). inputs_of s (system_value was.text) (script_value also.text) (slots_value None)) had.gives
+          ∙ sym (cond-true _ _ _ e);
     })) keys) reads) sets
 
--- and where memory was wanting behind the words
-pub opens_without_memory : (words : List (List ℕ)) (settings system script : Watched) → is_run_command words ≡ true → IsOpening words settings system script (Err NoMemory)
-opens_without_memory words settings system script e = inr (record { command = e; refused = refl })
+-- then what the slots recover to, or their refusal
+pub opens_slots : (words : List (List ℕ)) (settings system script : Watched) (disk : Kept) (set : Settings) (rows : List Row) (said : Script)
+    (found : Result Found Refusal) → is_run_command words ≡ true
+    → SetsOrNoMemory (names_settings words) settings (Ok set) → ReadsOrNoMemory system_rows system_limit system (Ok rows)
+    → ReadsOrNoMemory (λ text. or_refusal WrongScript (script_of text)) script_limit script (Ok said) → FindsOrNoMemory disk found
+    → IsOpening words settings system script disk (inputs_of (Ok set) (Ok rows) (Ok said) found)
+unfolding opening
+opens_slots words settings system script disk set rows said found e sets reads keys finds =
+    ⊎_elim (λ none. absurd (cc none))
+    (λ (had : Sets (names_settings words) settings (Ok set)).
+    ⊎_elim (λ none. absurd (cc none))
+    (λ (was : Reads system_rows system_limit system (Ok rows)).
+    ⊎_elim (λ none. absurd (cc none))
+    (λ (also : Reads (λ text. or_refusal WrongScript (script_of text)) script_limit script (Ok said)).
+    ⊎_elim (λ none. inr (record { command = e; refused = ap (inputs_of (Ok set) (Ok rows) (Ok said)) none }))
+    (λ (last : Finds disk found).
+    let a_system : reads_system words had.text ≡ true =
+    both (is_run_command words) (is_ok (settings_value (names_settings words) had.text)) true e (is_value _ set had.gives) in
+    let a_script : reads_script words had.text was.text ≡ true =
+    both (reads_system words had.text) (is_ok (system_value was.text)) true a_system (is_value _ rows was.gives) in
+    let slots : reads_slots words had.text was.text also.text ≡ true =
+    both (reads_script words had.text was.text) (is_ok (script_value also.text)) true a_script (is_value _ said also.gives) in
+    inl (record {
+      settings_text = had.text;
+      system_text = was.text;
+      script_text = also.text;
+      slots = last.slots;
+      settings_read = had.read;
+      system_read = was_read (reads_system words had.text) system system_limit was.text a_system was.read;
+      script_read = was_read (reads_script words had.text was.text) script script_limit also.text a_script also.read;
+      slots_read = called (reads_slots words had.text was.text also.text) disk last.slots slots last.read;
+      gives =
+          ap (inputs_of (Ok set) (Ok rows) (Ok said)) last.gives
+          ∙ ap (λ (k : Result Script Refusal). inputs_of (Ok set) (Ok rows) k (slots_value last.slots)) also.gives
+          ∙ ap (λ (y : Result (List Row) Refusal). inputs_of (Ok set) y (script_value also.text) (slots_value last.slots)) was.gives
+          ∙ ap (λ (s : Result Settings Refusal). inputs_of s (system_value was.text) (script_value also.text) (slots_value last.slots)) had.gives
+          ∙ sym (cond-true _ _ _ e);
+    })) finds) keys) reads) sets
 
--- the user's dictionary that was made for the run is the one that it begins with
-pub opens_with : (words : List (List ℕ)) (settings system script : Watched) (set : Settings) (rows : List Row) (said : Script) (start : Point) → start ≡ nothing_learnt set
-    → IsOpening words settings system script (with_rows set rows (Ok said))
-    → IsOpening words settings system script (Ok (record { basis = basis_over set rows start; script = said }))
-opens_with words settings system script set rows said start is opening =
-    subst (λ (p : Point). IsOpening words settings system script (Ok (record { basis = basis_over set rows p; script = said }))) (sym is) opening
+-- what was not asked is as it was
+pub unread_same : (left : Option (List ℕ)) (faults : ℕ) → IsUnread (watched left left faults faults)
+unread_same left faults = record { left = refl; faults = refl }
 
--- settings that a run does not name are the standard ones
-pub sets_standard : (named : Bool) (source : Watched) → named ≡ false → IsUnread source → SetsOrNoMemory named source (Ok standard_settings)
-sets_standard named source e is = inr (record { text = None; read = unread named source settings_limit None e is; gives = sym (cond-false _ _ _ e) })
+unwritten_same : (disk : DiskState) → IsUnwritten disk disk
+unwritten_same disk = record {
+  later = record { not_before = omega arith; earlier = λ under moment slot list low. (λ h. h, λ h. h) };
+  reads = λ slot. refl;
+  outcomes = λ slot list. (λ h. h, λ h. h);
+  between = λ under moment slot list low high. absurd (omega arith);
+}
 
--- and those that it names were read
-pub sets_read : (named : Bool) (source : Watched) (outcome : Result Settings Refusal) → named ≡ true
-    → ReadsOrNoMemory settings_of WrongSettings settings_limit source outcome → SetsOrNoMemory named source outcome
-sets_read named source outcome e reads =
-    ⊎_elim inl
-    (λ (was : Reads settings_of WrongSettings settings_limit source outcome). inr (record {
-      text = was.text;
-      read = record { read = λ _. was.read; unread = λ wrong. absurd (true≢false (sym e ∙ wrong)) };
-      gives = was.gives ∙ sym (cond-true _ _ _ e);
-    })) reads
+pub uncalled_same : (told : Bool) (disk : DiskState) (faults : ℕ) → IsUncalled (kept told disk disk faults faults)
+uncalled_same told disk faults = record { moment = λ _. refl; unwritten = λ _. unwritten_same disk; faults = refl }

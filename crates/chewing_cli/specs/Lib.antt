@@ -1,5 +1,6 @@
 pub mod Done
 pub mod Opens
-pub mod Progress
+pub mod Printed
 pub mod Refusals
 pub mod Runs
+pub mod Traces

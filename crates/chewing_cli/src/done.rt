@@ -1,14 +1,19 @@
 use arrayvec::ArrayVec;
+use chew_checkpoint::Round;
 use chew_plain::Entry;
 
 /// How a run ended.
-#[derive(Debug, Drop)]
+#[derive(Drop)]
 pub struct Done {
-    /// The exit status: 0, 2, 3, 4, 5, 7, 8 or 10.
+    /// The exit status: 0, or 2 to 11.
     pub status: u8,
-    /// The calls of the dictionary that were made, in order.
+    /// The calls of the dictionary that were made, in the order of their turns. Empty where the run was refused.
     pub journal: Vec<Entry>,
     /// For each context, in order, how many of its keys were handled. Empty where the script has no context,
     /// or where the run was refused before its first key.
     pub handled: ArrayVec<u32, 16>,
+    /// What each round answered, the worker's first.
+    pub rounds: ArrayVec<Round, 66>,
+    /// The place of the first of the last rounds, which follow the contexts.
+    pub last_from: u32,
 }

@@ -1,17 +1,17 @@
-//! The top call of the program: it reads the words of the command line, a system dictionary and a script, and
-//! writes the lines of the script's keys.
+//! The top call of the program: it reads the words of the command line, settings, a system dictionary and a script, recovers
+//! what the user taught, and runs the script's contexts at once, while a worker saves what they learn.
 #![tactic(auto)]
 
-mod context;
 mod done;
-mod keying;
+mod finishing;
 mod opening;
 mod program;
 mod refusal;
 mod run;
 mod sending;
+mod system;
+mod tracing;
 mod words;
-mod work;
 
 pub use chew_commands::{Command, Words, build_call, check_call, command_of, dump_call};
 pub use done::Done;

@@ -1,17 +1,20 @@
-ghost use Rattle.std.specs.Prelude.{◌≡◌, ◌≤◌, length};
+ghost use Rattle.std.specs.Prelude.{◌≡◌, ◌++◌, ◌≤◌, codes, decimal, length};
 ghost use Rattle.chew_spec_text.specs.Line.{with_line_feed};
-ghost use Rattle.chew_spec_program.specs.Refusal.{fault_line, refusal_line, refusal_status, row_cause_word, script_cause_word, setting_cause_word, setting_line};
+ghost use Rattle.chew_spec_program.specs.Refusal.{fault_line, refusal_line, refusal_status, setting_line, slot_line};
+ghost use Rattle.chew_spec_program.specs.Refusal.{row_cause_word, script_cause_word, setting_cause_word};
 ghost use Rattle.chew_rows.specs.Faults as row;
 ghost use Rattle.chew_script.specs.Faults as script;
 ghost use Rattle.chew_settings.specs.Faults as setting;
 ghost use Rattle.chew_spec_settings.specs.Name.{setting_word};
-ghost use Rattle.chewing_cli.specs.Refusals.{kind_of, read_refusal, script_refusal, settings_refusal, system_refusal};
+ghost use Rattle.chewing_cli.specs.Refusals.{image_refusal, kind_of, read_refusal, script_refusal, settings_refusal, slots_refusal, system_refusal};
 
 use arrayvec::ArrayString;
 use chew_outside::ReadFault;
 use chew_rows::{RowCause, RowsFault};
 use chew_script::{ScriptCause, ScriptFault};
 use chew_settings::{SettingCause, SettingName, SettingsFault};
+use chew_slots::SlotFault;
+use chew_trie_image::ImageFault;
 use itoa::Buffer;
 
 /// Why a run is refused before its first key.
@@ -34,8 +37,24 @@ pub(crate) enum Refusal {
         line: u32,
         cause: ScriptCause,
     },
+    /// The system is no image: its first faulty place.
+    WrongImage {
+        place: u64,
+    },
+    /// A slot is longer than 2^28 bytes.
+    SlotTooLarge {
+        slot: u8,
+        len: u64,
+    },
+    /// A slot is open, and damaged at this place.
+    SlotDamaged {
+        slot: u8,
+        place: u64,
+    },
     /// A source failed.
     SourceFailed,
+    /// The disk failed as its slots were read.
+    DiskFailed,
     /// Memory was wanting.
     NoMemory,
 }
@@ -71,6 +90,25 @@ impl Refusal {
         }
     }
 
+    /// Why the bytes of an image refuse the run.
+    pub(crate) fn of_image(fault: ImageFault) -> Refusal
+        ensures { kind_of result ≡ image_refusal fault }
+    {
+        Refusal::WrongImage { place: fault.place }
+    }
+
+    /// Why the slots of a disk refuse the run.
+    pub(crate) fn of_slots(fault: SlotFault) -> Refusal
+        ensures { kind_of result ≡ slots_refusal fault }
+    {
+        match fault {
+            SlotFault::DiskFault => Refusal::DiskFailed,
+            SlotFault::TooLarge { slot, len } => Refusal::SlotTooLarge { slot, len },
+            SlotFault::Damaged { slot, place } => Refusal::SlotDamaged { slot, place },
+            SlotFault::NoMemory => Refusal::NoMemory,
+        }
+    }
+
     /// Why a script's text refuses the run.
     pub(crate) fn of_script(fault: ScriptFault) -> Refusal
         ensures { kind_of result ≡ script_refusal fault }
@@ -90,13 +128,17 @@ impl Refusal {
             Refusal::WrongSettings { .. } => 3,
             Refusal::WrongSystem { .. } => 4,
             Refusal::WrongScript { .. } => 5,
+            Refusal::WrongImage { .. } => 4,
+            Refusal::SlotTooLarge { .. } => 6,
+            Refusal::SlotDamaged { .. } => 6,
             Refusal::SourceFailed => 7,
+            Refusal::DiskFailed => 9,
             Refusal::NoMemory => 10,
         }
     }
 
     /// The one line that is written. It takes no memory.
-    pub(crate) fn line(self) -> ArrayString<32>
+    pub(crate) fn line(self) -> ArrayString<40>
         ensures { result.bytes ≡ refusal_line (kind_of self) }
     {
         match self {
@@ -104,14 +146,18 @@ impl Refusal {
             Refusal::WrongSettings { key, cause } => setting_line(key, setting_cause_word(cause)),
             Refusal::WrongSystem { line, cause } => fault_line("system", line, row_word(cause)),
             Refusal::WrongScript { line, cause } => fault_line("script", line, script_word(cause)),
+            Refusal::WrongImage { place } => image_line(place),
+            Refusal::SlotTooLarge { slot, len } => slot_line(slot, "too large", len),
+            Refusal::SlotDamaged { slot, place } => slot_line(slot, "damaged", place),
             Refusal::SourceFailed => word_line("source"),
+            Refusal::DiskFailed => word_line("disk"),
             Refusal::NoMemory => word_line("memory"),
         }
     }
 }
 
 /// A word alone.
-fn word_line(word: &str) -> ArrayString<32>
+fn word_line(word: &str) -> ArrayString<40>
     requires { length word.now ≤ 10 }
     ensures { result.bytes ≡ with_line_feed word.now }
 {
@@ -122,7 +168,7 @@ fn word_line(word: &str) -> ArrayString<32>
 }
 
 /// The name of an input, the number of its line, and the word of a cause.
-fn fault_line(input: &str, number: u32, word: &str) -> ArrayString<32>
+fn fault_line(input: &str, number: u32, word: &str) -> ArrayString<40>
     requires input { length input.now ≤ 6 }
     requires word { length word.now ≤ 10 }
     ensures { result.bytes ≡ fault_line input.now number word.now }
@@ -138,8 +184,37 @@ fn fault_line(input: &str, number: u32, word: &str) -> ArrayString<32>
     line
 }
 
+/// The first faulty place of an image.
+fn image_line(place: u64) -> ArrayString<40>
+    ensures { result.bytes ≡ codes "system image " ++ with_line_feed (decimal place) }
+{
+    let mut digits = Buffer::new();
+    let mut line = ArrayString::new();
+    line.push_str("system image ");
+    line.push_str(digits.format(place));
+    line.push_str("\n");
+    line
+}
+
+/// The number of a slot, what is wrong with it, and a number of bytes.
+fn slot_line(slot: u8, wrong: &str, number: u64) -> ArrayString<40>
+    requires { length wrong.now ≤ 9 }
+    ensures { result.bytes ≡ slot_line slot wrong.now number }
+{
+    let mut digits = Buffer::new();
+    let mut line = ArrayString::new();
+    line.push_str("slot ");
+    line.push_str(digits.format(slot));
+    line.push_str(" ");
+    line.push_str(wrong);
+    line.push_str(" ");
+    line.push_str(digits.format(number));
+    line.push_str("\n");
+    line
+}
+
 /// The name of a setting, and the word of a cause.
-fn setting_line(key: SettingName, word: &str) -> ArrayString<32>
+fn setting_line(key: SettingName, word: &str) -> ArrayString<40>
     requires { length word.now ≤ 7 }
     ensures { result.bytes ≡ setting_line (setting_word (setting.name_of key)) word.now }
 {

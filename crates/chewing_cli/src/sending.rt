@@ -1,20 +1,22 @@
-ghost use Rattle.std.specs.Prelude.{◌≡◌, ◌+◌, ◌≤◌, [], is_err, length, map};
-ghost use Rattle.chew_spec_program.specs.Output.{header, texts_from};
+ghost use Rattle.std.specs.Prelude.{◌≡◌, ◌+◌, ◌++◌, ◌≤◌, is_err, length, map};
+ghost use Rattle.chew_spec_program.specs.Output.{answer_words, contexts_from, header, round_line, rounds_from};
 ghost use Rattle.chew_spec_program.specs.Run.{IsRefused};
 ghost use Rattle.chew_spec_program.specs.Writing.{Writes, sunk};
+ghost use Rattle.chew_checkpoint.specs.Answers.{round_of};
 ghost use Rattle.chewing_cli.specs.Done.{ended_of};
 ghost use Rattle.chewing_cli.specs.Refusals.{kind_of};
 
-use crate::context::ContextEnd;
 use crate::done::Done;
 use crate::refusal::Refusal;
 use arrayvec::{ArrayString, ArrayVec};
+use chew_checkpoint::Round;
 use chew_outside::{Failed, Sink, write_all};
+use chew_session::ContextEnd;
 use itoa::Buffer;
 use std::alloc::Global;
 
 /// Writes the bytes; a sink that fails took less than all.
-fn send<O: Sink>(sink: &mut O, bytes: &[u8]) -> Result<(), Failed>
+pub(crate) fn send<O: Sink>(sink: &mut O, bytes: &[u8]) -> Result<(), Failed>
     ensures { Writes (sunk (O.taken sink.old) (O.taken sink.new) (O.faults sink.old) (O.faults sink.new)) bytes.now (is_err result) }
 {
     write_all(sink, bytes)
@@ -32,6 +34,23 @@ fn header(number: u32) -> ArrayString<32>
     line
 }
 
+/// Writes the lines of a context.
+fn send_lines<O: Sink>(sink: &mut O, end: &ContextEnd) -> Result<(), Failed>
+    ensures { Writes (sunk (O.taken sink.old) (O.taken sink.new) (O.faults sink.old) (O.faults sink.new)) end.now.bytes (is_err result) }
+{
+    send(sink, end.bytes.bytes())
+}
+
+/// Writes the header and the lines of a context, up to the first write that fails.
+fn send_context<O: Sink>(sink: &mut O, number: u32, end: &ContextEnd) -> Result<(), Failed>
+    ensures { Writes (sunk (O.taken sink.old) (O.taken sink.new) (O.faults sink.old) (O.faults sink.new)) (header number ++ end.now.bytes) (is_err result) }
+{
+    match send(sink, header(number).as_bytes()) {
+        Ok(()) => send_lines(sink, end),
+        Err(failed) => Err(failed),
+    }
+}
+
 /// Writes the header and the lines of each context, numbered from this one, up to the first write that fails.
 pub(crate) fn send_contexts<O: Sink>(
     sink: &mut O,
@@ -40,15 +59,76 @@ pub(crate) fn send_contexts<O: Sink>(
 ) -> Result<(), Failed>
     requires { number + length ends.now ≤ 17 }
     ensures { Writes (sunk (O.taken sink.old) (O.taken sink.new) (O.faults sink.old) (O.faults sink.new))
-        (texts_from number (map (λ end. end.text) ends.now)) (is_err result) }
+        (contexts_from number (map (λ end. end.bytes) ends.now)) (is_err result) }
 {
     match ends {
         [] => Ok(()),
-        [end, rest @ ..] => {
-            send(sink, header(number).as_bytes())?;
-            send(sink, end.text.as_slice())?;
-            send_contexts(sink, number + 1, rest)
+        [end, rest @ ..] => match send_context(sink, number, end) {
+            Ok(()) => send_contexts(sink, number + 1, rest),
+            Err(failed) => Err(failed),
+        },
+    }
+}
+
+/// What a round answered, in words.
+fn answer_words(round: &Round) -> ArrayString<32>
+    ensures { result.bytes ≡ answer_words (round_of round.now) }
+{
+    let mut digits = Buffer::new();
+    let mut words = ArrayString::new();
+    match round {
+        Round::Saved(number) => {
+            words.push_str("saved ");
+            words.push_str(digits.format(*number));
         }
+        Round::DiskFault { step } => {
+            words.push_str("disk fault ");
+            words.push_str(digits.format(*step));
+        }
+        Round::NoMemory => words.push_str("no memory"),
+        Round::SeqSpent { .. } => words.push_str("seq spent"),
+    }
+    words
+}
+
+/// The line of a round. It takes no memory.
+fn round_line(number: u32, round: &Round) -> ArrayString<64>
+    ensures { result.bytes ≡ round_line number (round_of round.now) }
+{
+    let words = answer_words(round);
+    let mut digits = Buffer::new();
+    let mut line = ArrayString::new();
+    line.push_str("round ");
+    line.push_str(digits.format(number));
+    line.push_str(" ");
+    line.push_str(words.as_str());
+    line.push_str("\n");
+    line
+}
+
+/// Writes the line of a round.
+fn send_round<O: Sink>(sink: &mut O, number: u32, round: &Round) -> Result<(), Failed>
+    ensures { Writes (sunk (O.taken sink.old) (O.taken sink.new) (O.faults sink.old) (O.faults sink.new)) (round_line number (round_of round.now)) (is_err result) }
+{
+    send(sink, round_line(number, round).as_bytes())
+}
+
+/// Writes a line for each round, numbered from this one, up to the first write that fails.
+pub(crate) fn send_rounds<O: Sink>(
+    sink: &mut O,
+    number: u32,
+    rounds: &[Round],
+) -> Result<(), Failed>
+    requires { number + length rounds.now ≤ 67 }
+    ensures { Writes (sunk (O.taken sink.old) (O.taken sink.new) (O.faults sink.old) (O.faults sink.new))
+        (rounds_from number (map round_of rounds.now)) (is_err result) }
+{
+    match rounds {
+        [] => Ok(()),
+        [round, rest @ ..] => match send_round(sink, number, round) {
+            Ok(()) => send_rounds(sink, number + 1, rest),
+            Err(failed) => Err(failed),
+        },
     }
 }
 
@@ -62,5 +142,7 @@ pub(crate) fn refuse<O: Sink>(alloc: Global, refusal: Refusal, sink: &mut O) -> 
         status: refusal.status(),
         journal: Vec::new(alloc),
         handled: ArrayVec::new(),
+        rounds: ArrayVec::new(),
+        last_from: 0,
     }
 }

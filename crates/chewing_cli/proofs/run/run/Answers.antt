@@ -1,31 +1,52 @@
--- How the run ends.
-use Rattle.std.proofs.Common.{◌≡◌, ◌∙◌, Bool, List, ap, ap₂, inr, refl, is_err, map, subst}
-use Rattle.chew_spec_text.specs.KeyStroke.{KeyStroke}
-use Rattle.chew_spec_program.specs.Output.{texts_from}
-use Rattle.chew_spec_program.specs.Run.{are_handled, talk_status}
-use Rattle.chew_spec_program.specs.Writing.{Sunk, Writes, sunk}
-use Rattle.chew_script.specs.Keys.{lists_of}
-use Rattle.chewing_cli.specs.Opens.{inputs_of}
-use Rattle.chewing_cli.specs.Progress.{ContextEnd, RanAll, basis_over}
-use Rattle.chewing_cli.proofs.Ends.{same_end, talked}
+-- A session of what was opened; or memory was wanting before its first key.
+use Rattle.std.proofs.Common.{◌∙◌, ap, arith, inl, inr, refl}
+use Rattle.std.proofs.lemmas.List.{length-map}
+use Rattle.chew_spec_dictionary.specs.Dictionary.{Dictionary}
+use Rattle.chew_spec_dictionary.specs.History.{start_of}
+use Rattle.chew_spec_text.specs.Script.{Script}
+use Rattle.chew_checkpoint.specs.Answers.{round_of}
+use Rattle.chew_session.specs.Answers.{ended_of as session_of}
+use Rattle.chew_session.specs.Crew.{basis_of, keys_of_all}
+use Rattle.chewing_cli.specs.Opens.{inputs_of, rows_of}
+use Rattle.chewing_cli.proofs.Runs.{cap_fits, last_fits, leaves_inputs, may_type, untouched_same}
 use Rattle.chewing_cli.proofs.run.run.Goals as goal
 
-pub returns : goal.returns
-returns g c =
-    let ends : List ContextEnd = c.run_contexts.new.ends.items in
-    let failed : Bool = is_err c.send_contexts.result in
-    let contexts : List (List KeyStroke) = c.args.opened.script.contexts in
-    let sink : Sunk = sunk (g.O.Sink.taken c.args.sink.now) (g.O.Sink.taken c.send_contexts.new.sink) (g.O.Sink.faults c.args.sink.now) (g.O.Sink.faults c.send_contexts.new.sink) in
-    let lists : lists_of c.lists-contexts.result.now ≡ contexts = c.lists-contexts.ensures ∙ ap (λ script. script.contexts) c.script.view_is in
-    let ran : RanAll (basis_over c.args.opened.settings c.args.opened.system c.args.opened.plain) contexts c.run_contexts.new.work ends =
-    subst (λ lists. RanAll (basis_over c.args.opened.settings c.args.opened.system c.args.opened.plain) lists c.run_contexts.new.work ends) lists
-    (subst (λ start. RanAll (basis_over c.args.opened.settings c.args.opened.system start) (lists_of c.lists-contexts.result.now) c.run_contexts.new.work ends) (ap (λ work. work.point) c.new-work.ensures) c.run_contexts.ensures.all) in
-    let written : Writes sink (texts_from 1 (map (λ end. end.text) ends)) failed =
-    subst (λ list. Writes sink (texts_from 1 (map (λ end. end.text) list)) failed) c.as_slice.ensures.value c.send_contexts.ensures in
-    let all : c.are_handled.result ≡ are_handled contexts (map (λ end. end.handled) ends) =
-    c.are_handled.ensures ∙ ap₂ (λ lists list. are_handled lists (map (λ end. end.handled) list)) lists c.as_slice-2.ensures.value in
-    let status : c.status_of.result ≡ talk_status failed (are_handled contexts (map (λ end. end.handled) ends)) =
-    c.status_of.ensures ∙ ap₂ talk_status c.is_err-failed.ensures.value all in
-    let counts : c.counts_of.result.items ≡ map (λ end. end.handled) ends = c.counts_of.ensures ∙ ap (map (λ end. end.handled)) c.as_slice-3.ensures.value in
-    inr (talked (inputs_of c.args.opened) sink _ c.run_contexts.new.work ends failed (record { rows = c.requires.rows; settings = c.requires.settings; pairs = c.requires.pairs }) c.requires.keys ran written
-    (same_end _ _ _ _ _ _ status c.into_journal.ensures counts))
+pub share-requires-clause-cap : goal.share-requires-clause-cap
+share-requires-clause-cap g c = cap_fits c.args.opened.settings c.requires.limits.in_range
+
+pub run_session-ended-requires-clause-typing : goal.run_session-ended-requires-clause-typing
+run_session-ended-requires-clause-typing g c = λ lives within.
+    may_type (inputs_of c.args.opened) c.in-Ok-share.seats.shared c.args.opened.settings c.in-Ok.actors.items c.requires.limits refl
+    (ap (λ (d : Dictionary). d.pairs) c.in-Ok-share.ensures.start) (c.in-Ok.ensures.keys ∙ ap (λ (s : Script). s.contexts) c.script.view_is) c.in-Ok.ensures.order
+
+pub finish-requires : goal.finish-requires
+finish-requires g c =
+    let made = length-map c.run_session-ended.result.rounds.items round_of in
+    let fits =
+    last_fits (basis_of (rows_of c.args.opened.system) c.args.opened.settings c.in-Ok-share.seats.shared) (keys_of_all c.in-Ok.actors.items) c.script.inside.rounds c.of-checkpointer.result.seq
+    (session_of c.run_session-ended.result) c.run_session-ended.ensures.session in
+    record { last = omega arith }
+
+pub returns-in-Err-clause-ends : goal.returns-in-Err-clause-ends
+returns-in-Err-clause-ends g c = inr (record { refused = c.refuse.ensures; untouched = untouched_same _; calm = refl })
+
+pub returns-in-Err-share-clause-ends : goal.returns-in-Err-share-clause-ends
+returns-in-Err-share-clause-ends g c = inr (record { refused = c.refuse-in-Err-share.ensures; untouched = untouched_same _; calm = refl })
+
+pub returns-clause-ends : goal.returns-clause-ends
+returns-clause-ends g c =
+    inl (record {
+      session = session_of c.run_session-ended.result;
+      leaves = leaves_inputs (inputs_of c.args.opened) c.args.opened.found.keep _ (session_of c.run_session-ended.result) c.of-checkpointer.result
+          (basis_of (rows_of c.args.opened.system) c.args.opened.settings c.in-Ok-share.seats.shared) (keys_of_all c.in-Ok.actors.items) c.script.inside.rounds c.of-checkpointer.ensures
+          (ap (λ (d : Dictionary). record { system = rows_of c.args.opened.system; settings = c.args.opened.settings; start = start_of d }) c.in-Ok-share.ensures.start)
+          (c.in-Ok.ensures.keys ∙ ap (λ (s : Script). s.contexts) c.script.view_is) (ap (λ (s : Script). s.rounds) c.script.view_is)
+          (record {
+            is_session = c.run_session-ended.ensures.session;
+            faults = record { rose = c.run_session-ended.ensures.faults; calm = c.run_session-ended.ensures.calm };
+            later = c.run_session-ended.ensures.later;
+            untouched = c.run_session-ended.ensures.untouched;
+            crash = c.run_session-ended.ensures.crash;
+          });
+      finishes = c.finish.ensures;
+    })
