@@ -1,0 +1,5 @@
+//! Tests of what `make` writes.
+#![tactic(auto)]
+
+#[cfg(test)]
+mod summaries;
