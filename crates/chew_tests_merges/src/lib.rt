@@ -1,0 +1,11 @@
+//! Tests of layers with known answers: the calls of known keys, and a snapshot that is saved while the dictionary goes on.
+#![tactic(auto)]
+
+#[cfg(test)]
+mod known_calls;
+#[cfg(test)]
+mod replies;
+#[cfg(test)]
+mod saved_snapshot;
+#[cfg(test)]
+mod steps;
