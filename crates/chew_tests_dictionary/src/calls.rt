@@ -5,10 +5,20 @@ ghost use Rattle.chew_spec_syllable.specs.Row.{is_pair};
 
 use chew_plain::{Call, Hits, Plain, Reply};
 use chew_syllable::{Key, Phrase, Run, Syllable};
-use std::test::Fail;
+use std::process::Abort;
+
+/// The pair of these syllables and this text.
+pub(crate) fn pair(rt: &impl Abort, key: &[Syllable], text: &str) -> (Key, Phrase)
+    ensures { IsTrue (is_pair result.0 result.1) }
+{
+    match pair_of(key, text) {
+        Some(pair) => pair,
+        None => panic!(rt; "no pair"),
+    }
+}
 
 /// The pair of these syllables and this text, where they are one.
-pub(crate) fn pair(key: &[Syllable], text: &str) -> Option<(Key, Phrase)>
+fn pair_of(key: &[Syllable], text: &str) -> Option<(Key, Phrase)>
     ensures { IfSome result (λ pair. IsTrue (is_pair pair.0 pair.1)) }
 {
     let key = Key::of(key)?;
@@ -23,64 +33,106 @@ pub(crate) fn pair(key: &[Syllable], text: &str) -> Option<(Key, Phrase)>
 
 /// Learns a pair.
 pub(crate) fn learn(
+    rt: &impl Abort,
     plain: &mut Plain,
     key: &[Syllable],
     text: &str,
     orig: u32,
     peak: u32,
-) -> Result<Reply, Fail> {
-    let Some((key, phrase)) = pair(key, text) else {
-        return Err(Fail::new("no pair"));
-    };
-    if orig > peak {
-        return Err(Fail::new("no frequencies"));
-    }
-    if peak > 99_999_999 {
-        return Err(Fail::new("no frequencies"));
-    }
-    let reply = plain.apply(&Call::Learn {
+) -> Reply {
+    assert!(rt; orig <= peak);
+    assert!(rt; peak <= 99_999_999);
+    let (key, phrase) = pair(rt, key, text);
+    let call = Call::Learn {
         key,
         phrase,
         orig,
         peak,
-    })?;
-    Ok(reply)
+    };
+    plain.apply(&call).expect(rt, "memory")
 }
 
 /// Forgets a pair.
-pub(crate) fn forget(plain: &mut Plain, key: &[Syllable], text: &str) -> Result<Reply, Fail> {
-    let Some((key, phrase)) = pair(key, text) else {
-        return Err(Fail::new("no pair"));
-    };
-    let reply = plain.apply(&Call::Forget { key, phrase })?;
-    Ok(reply)
+pub(crate) fn forget(rt: &impl Abort, plain: &mut Plain, key: &[Syllable], text: &str) -> Reply {
+    let (key, phrase) = pair(rt, key, text);
+    plain
+        .apply(&Call::Forget { key, phrase })
+        .expect(rt, "memory")
 }
 
 /// Hides a pair.
-pub(crate) fn hide(plain: &mut Plain, key: &[Syllable], text: &str) -> Result<Reply, Fail> {
-    let Some((key, phrase)) = pair(key, text) else {
-        return Err(Fail::new("no pair"));
-    };
-    if key.len() < 2 {
-        return Err(Fail::new("one syllable"));
-    }
-    let reply = plain.apply(&Call::Hide { key, phrase })?;
-    Ok(reply)
+pub(crate) fn hide(rt: &impl Abort, plain: &mut Plain, key: &[Syllable], text: &str) -> Reply {
+    let (key, phrase) = pair(rt, key, text);
+    assert!(rt; key.len() >= 2);
+    plain
+        .apply(&Call::Hide { key, phrase })
+        .expect(rt, "memory")
 }
 
 /// Looks up a run.
-pub(crate) fn look(plain: &mut Plain, run: &[Syllable]) -> Result<Hits, Fail> {
-    let Some(run) = Run::of(run) else {
-        return Err(Fail::new("no run"));
-    };
-    match plain.apply(&Call::Look(run))? {
-        Reply::Rows(hits) => Ok(hits),
-        _ => Err(Fail::new("no rows")),
+pub(crate) fn look(rt: &impl Abort, plain: &mut Plain, run: &[Syllable]) -> Hits {
+    let run = Run::of(run).expect(rt, "a run");
+    match plain.apply(&Call::Look(run)).expect(rt, "memory") {
+        Reply::Rows(hits) => hits,
+        _ => panic!(rt; "no rows"),
+    }
+}
+
+/// A pair is learnt by these frequencies, and has this frequency and time then.
+pub(crate) fn learns(
+    rt: &impl Abort,
+    plain: &mut Plain,
+    key: &[Syllable],
+    text: &str,
+    (orig, peak): (u32, u32),
+    (freq, time): (u32, u64),
+) {
+    let reply = learn(rt, plain, key, text, orig, peak);
+    assert!(rt; are_same(&reply, &Reply::Learned { freq, time }), "{text}");
+}
+
+/// A forget is answered so.
+pub(crate) fn forgets(
+    rt: &impl Abort,
+    plain: &mut Plain,
+    key: &[Syllable],
+    text: &str,
+    wanted: &Reply,
+) {
+    assert!(rt; are_same(&forget(rt, plain, key, text), wanted), "{text}");
+}
+
+/// A hide is answered so.
+pub(crate) fn hides(
+    rt: &impl Abort,
+    plain: &mut Plain,
+    key: &[Syllable],
+    text: &str,
+    wanted: &Reply,
+) {
+    assert!(rt; are_same(&hide(rt, plain, key, text), wanted), "{text}");
+}
+
+/// The learns that came before, and the pairs.
+pub(crate) fn has(rt: &impl Abort, plain: &Plain, life: u64, pairs: u32) {
+    assert_eq!(rt; plain.life(), life);
+    assert_eq!(rt; plain.pairs(), pairs);
+}
+
+/// Whether two replies are the same. None is a look's.
+pub(crate) fn are_same(reply: &Reply, other: &Reply) -> bool {
+    match reply {
+        Reply::Learned { freq, time } => is_learned(other, (*freq, *time)),
+        Reply::Full => matches!(other, Reply::Full),
+        Reply::Forgot => matches!(other, Reply::Forgot),
+        Reply::NotThere => matches!(other, Reply::NotThere),
+        Reply::Hid => matches!(other, Reply::Hid),
+        _ => false,
     }
 }
 
 /// Whether a pair was learnt, with this frequency and time.
-pub(crate) fn is_learned(reply: &Reply, wanted: (u32, u64)) -> bool {
+fn is_learned(reply: &Reply, wanted: (u32, u64)) -> bool {
     match reply {
         Reply::Learned { freq, time } => (*freq, *time) == wanted,
         _ => false,

@@ -5,7 +5,7 @@ use chew_plain::{Hit, Reply};
 use chew_syllable::{Key, Phrase, Syllable};
 use std::alloc::Global;
 use std::cmp::{max, min};
-use std::test::Fail;
+use std::process::Abort;
 
 /// A pair, and what it has.
 #[derive(Drop)]
@@ -55,15 +55,16 @@ impl Listed {
     /// Learns a pair.
     pub(crate) fn learn(
         &mut self,
+        rt: &impl Abort,
         key: &[Syllable],
         text: &str,
         orig: u32,
         peak: u32,
-    ) -> Result<Reply, Fail> {
+    ) -> Reply {
         let greatest = max(max(orig, peak), self.greatest_shown(key));
         let had = self.take(key, text);
         if had.is_none() && self.pairs.len() >= self.cap {
-            return Ok(Reply::Full);
+            return Reply::Full;
         }
         let freq = match had {
             Some(held) if !held.hidden => {
@@ -73,9 +74,9 @@ impl Listed {
             _ => max(orig, 1),
         };
         let time = min(self.life, u64::MAX - 1);
-        self.hold(key, text, freq, time, false)?;
+        self.hold(rt, key, text, freq, time, false);
         self.life = self.life.saturating_add(1);
-        Ok(Reply::Learned { freq, time })
+        Reply::Learned { freq, time }
     }
 
     /// Forgets a pair.
@@ -87,18 +88,18 @@ impl Listed {
     }
 
     /// Hides a pair.
-    pub(crate) fn hide(&mut self, key: &[Syllable], text: &str) -> Result<Reply, Fail> {
+    pub(crate) fn hide(&mut self, rt: &impl Abort, key: &[Syllable], text: &str) -> Reply {
         let had = self.take(key, text);
         if had.is_none() && self.pairs.len() >= self.cap {
-            return Ok(Reply::Full);
+            return Reply::Full;
         }
         let (freq, reply) = match had {
             Some(held) if held.hidden => (held.freq, Reply::NotThere),
             Some(held) => (held.freq, Reply::Hid),
             None => (0, Reply::Hid),
         };
-        self.hold(key, text, freq, 0, true)?;
-        Ok(reply)
+        self.hold(rt, key, text, freq, 0, true);
+        reply
     }
 
     /// How many pairs a key has.
@@ -140,23 +141,22 @@ impl Listed {
     /// Holds a pair that is not held.
     pub(crate) fn hold(
         &mut self,
+        rt: &impl Abort,
         key: &[Syllable],
         text: &str,
         freq: u32,
         time: u64,
         hidden: bool,
-    ) -> Result<(), Fail> {
-        let Some((key, phrase)) = pair(key, text) else {
-            return Err(Fail::new("no pair"));
-        };
-        self.pairs.push(Held {
+    ) {
+        let (key, phrase) = pair(rt, key, text);
+        let held = Held {
             key,
             phrase,
             freq,
             time,
             hidden,
-        })?;
-        Ok(())
+        };
+        assert!(rt; self.pairs.push(held).is_ok(), "memory");
     }
 }
 

@@ -2,14 +2,14 @@
 
 ghost use Rattle.std.specs.Prelude.{◌≡◌, ◌≤◌, length};
 
-use crate::calls::{forget, hide, is_learned, learn, look};
+use crate::calls::{are_same, forget, hide, learn, look};
 use crate::five_rows::{CE, SHI, are_apart, five, syllable};
 use crate::listed::Listed;
-use chew_plain::{Hit, Plain, Reply};
-use chew_syllable::Syllable;
+use chew_plain::{Hit, Plain};
+use chew_syllable::{KeyRow, Syllable};
 use std::alloc::Global;
 use std::cmp::min;
-use std::test::Fail;
+use std::process::Abort;
 
 /// The pairs that both hold at most.
 const CAP: u32 = 24;
@@ -43,18 +43,6 @@ fn orig_of(number: u32) -> u32
         1 => 40,
         2 => 300,
         _ => 9318,
-    }
-}
-
-/// Whether two replies are the same. None is a look's.
-fn are_same(reply: &Reply, other: &Reply) -> bool {
-    match reply {
-        Reply::Learned { freq, time } => is_learned(other, (*freq, *time)),
-        Reply::Full => matches!(other, Reply::Full),
-        Reply::Forgot => matches!(other, Reply::Forgot),
-        Reply::NotThere => matches!(other, Reply::NotThere),
-        Reply::Hid => matches!(other, Reply::Hid),
-        _ => false,
     }
 }
 
@@ -119,62 +107,67 @@ fn are_found(listed: &Listed, run: &[Syllable], hits: &[Hit]) -> bool {
 
 /// Makes the call of a number. Whether both answer alike.
 fn answer_alike(
+    rt: &impl Abort,
     plain: &mut Plain,
     listed: &mut Listed,
     run: &[Syllable],
     number: u32,
-) -> Result<bool, Fail>
+) -> bool
     requires { length run.now ≡ 10 }
 {
     let start = (number / 4 % 8) as usize;
     let key = &run[start..start + 1 + (number / 32 % 3) as usize];
     let text = text_of(key.len(), number / 128);
-    let alike = match number / 4096 {
+    match number / 4096 {
         0..=8 => {
             let orig = orig_of(number / 512);
-            let peak = orig + number % 1000;
-            let reply = learn(plain, key, text, orig, peak)?;
-            are_same(&reply, &listed.learn(key, text, orig, peak)?)
+            learn_alike(rt, plain, listed, (key, text), orig, orig + number % 1000)
         }
         9..=11 if key.len() > 1 => {
-            let reply = hide(plain, key, text)?;
-            are_same(&reply, &listed.hide(key, text)?)
+            are_same(&hide(rt, plain, key, text), &listed.hide(rt, key, text))
         }
-        12..=13 => {
-            let hits = look(plain, run)?;
-            are_found(listed, run, hits.list())
-        }
-        _ => {
-            let reply = forget(plain, key, text)?;
-            are_same(&reply, &listed.forget(key, text))
-        }
-    };
-    Ok(alike)
+        12..=13 => are_found(listed, run, look(rt, plain, run).list()),
+        _ => are_same(&forget(rt, plain, key, text), &listed.forget(key, text)),
+    }
+}
+
+/// Learns a pair. Whether both answer alike.
+fn learn_alike(
+    rt: &impl Abort,
+    plain: &mut Plain,
+    listed: &mut Listed,
+    (key, text): (&[Syllable], &str),
+    orig: u32,
+    peak: u32,
+) -> bool {
+    let reply = learn(rt, plain, key, text, orig, peak);
+    are_same(&reply, &listed.learn(rt, key, text, orig, peak))
 }
 
 /// Makes so many calls. Whether both answer alike, and have as many pairs and learns, after each.
 fn stay_alike(
+    rt: &impl Abort,
     plain: &mut Plain,
     listed: &mut Listed,
     run: &[Syllable],
     calls: u32,
-) -> Result<bool, Fail>
+) -> bool
     requires { length run.now ≡ 10 }
 {
     let mut number = 1;
     for _call in 0..calls {
         number = next(number);
-        if !answer_alike(plain, listed, run, number)? {
-            return Ok(false);
+        if !answer_alike(rt, plain, listed, run, number) {
+            return false;
         }
         if plain.pairs() as usize != listed.count() {
-            return Ok(false);
+            return false;
         }
         if plain.life() != listed.life() {
-            return Ok(false);
+            return false;
         }
     }
-    Ok(true)
+    true
 }
 
 /// Ten syllables, each of three after each.
@@ -186,44 +179,36 @@ fn ten_syllables() -> [Syllable; 10] {
 }
 
 /// The five rows, listed.
-fn five_listed(alloc: Global, life: u64) -> Result<Listed, Fail> {
+fn five_listed(rt: &impl Abort, alloc: Global, rows: &[KeyRow], life: u64) -> Listed {
     let mut listed = Listed::new(alloc, life, CAP as usize);
-    let rows = five(alloc)?;
-    for row in rows.as_slice() {
-        listed.hold(row.key.list(), row.phrase.text(), row.freq, 0, false)?;
+    for row in rows {
+        listed.hold(rt, row.key.list(), row.phrase.text(), row.freq, 0, false);
     }
-    Ok(listed)
+    listed
 }
 
 /// Whether both stay alike from the five rows on, so many learns after they were learnt.
-fn stay_alike_from(alloc: Global, life: u64) -> Result<bool, Fail> {
-    let rows = five(alloc)?;
-    if rows.len() > 5 {
-        return Ok(false);
-    }
-    if !are_apart(&rows) {
-        return Ok(false);
-    }
-    let mut plain = Plain::of(rows, life, CAP)?;
-    let mut listed = five_listed(alloc, life)?;
-    stay_alike(&mut plain, &mut listed, &ten_syllables(), 6000)
+fn stay_alike_from(rt: &impl Abort, alloc: Global, life: u64) -> bool {
+    let rows = five(alloc).expect(rt, "memory");
+    assert!(rt; rows.len() <= 5);
+    assert!(rt; are_apart(&rows));
+    let mut listed = five_listed(rt, alloc, &rows, life);
+    let mut plain = Plain::of(rows, life, CAP).expect(rt, "memory");
+    stay_alike(rt, &mut plain, &mut listed, &ten_syllables(), 6000)
 }
 
 #[test]
-fn many_calls_are_answered_as_a_list_does(rt: HostRuntime) -> Result<(), Fail> {
-    assert!(rt; stay_alike_from(rt.alloc(), 0)?);
-    Ok(())
+fn many_calls_are_answered_as_a_list_does(rt: HostRuntime) {
+    assert!(rt; stay_alike_from(&rt, rt.alloc(), 0));
 }
 
 #[test]
-fn many_calls_long_after_are_answered_as_a_list_does(rt: HostRuntime) -> Result<(), Fail> {
-    assert!(rt; stay_alike_from(rt.alloc(), 3990)?);
-    assert!(rt; stay_alike_from(rt.alloc(), 49_990)?);
-    Ok(())
+fn many_calls_long_after_are_answered_as_a_list_does(rt: HostRuntime) {
+    assert!(rt; stay_alike_from(&rt, rt.alloc(), 3990));
+    assert!(rt; stay_alike_from(&rt, rt.alloc(), 49_990));
 }
 
 #[test]
-fn many_calls_at_the_end_of_life_are_answered_as_a_list_does(rt: HostRuntime) -> Result<(), Fail> {
-    assert!(rt; stay_alike_from(rt.alloc(), u64::MAX - 3)?);
-    Ok(())
+fn many_calls_at_the_end_of_life_are_answered_as_a_list_does(rt: HostRuntime) {
+    assert!(rt; stay_alike_from(&rt, rt.alloc(), u64::MAX - 3));
 }

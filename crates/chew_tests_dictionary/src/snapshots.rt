@@ -1,40 +1,39 @@
 //! What freezes and installs answer.
 
-ghost use Rattle.std.specs.Prelude.{◌≡◌, IfOk, Some};
+ghost use Rattle.std.specs.Prelude.{◌≡◌, Some};
 
 use crate::calls::look;
 use chew_plain::{Call, Plain, Reply};
-use std::test::Fail;
+use chew_syllable::NoMemory;
+use std::process::Abort;
 
 /// The number of the snapshot that waits after a freeze.
-fn freeze(plain: &mut Plain) -> Result<u64, Fail>
-    ensures { IfOk result (λ number. plain.new.shape.waiting ≡ Some number) }
+fn freeze(rt: &impl Abort, plain: &mut Plain) -> u64
+    ensures { plain.new.shape.waiting ≡ Some result }
 {
-    match plain.apply(&Call::Freeze)? {
-        Reply::Frozen(number) => Ok(number),
-        _ => Err(Fail::new("not frozen")),
+    match plain.apply(&Call::Freeze).expect(rt, "memory") {
+        Reply::Frozen(number) => number,
+        _ => panic!(rt; "not frozen"),
     }
 }
 
 /// Whether the waiting snapshot was installed.
-fn install(plain: &mut Plain, number: u64) -> Result<bool, Fail>
+fn install(rt: &impl Abort, plain: &mut Plain, number: u64) -> bool
     requires { plain.now.shape.waiting ≡ Some number }
 {
-    match plain.apply(&Call::Install(number))? {
-        Reply::Installed => Ok(true),
-        _ => Ok(false),
-    }
+    let reply = plain.apply(&Call::Install(number)).expect(rt, "memory");
+    matches!(reply, Reply::Installed)
 }
 
 #[test]
-fn a_snapshot_waits_until_it_is_installed(rt: HostRuntime) -> Result<(), Fail> {
+fn a_snapshot_waits_until_it_is_installed(rt: HostRuntime) -> Result<(), NoMemory> {
     let mut plain = Plain::of(Vec::new(rt.alloc()), 0, 2)?;
-    let _nothing = look(&mut plain, &[])?;
-    assert_eq!(rt; freeze(&mut plain)?, 1);
-    let _nothing = look(&mut plain, &[])?;
-    let number = freeze(&mut plain)?;
+    look(&rt, &mut plain, &[]);
+    assert_eq!(rt; freeze(&rt, &mut plain), 1);
+    look(&rt, &mut plain, &[]);
+    let number = freeze(&rt, &mut plain);
     assert_eq!(rt; number, 1);
-    assert!(rt; install(&mut plain, number)?);
-    assert_eq!(rt; freeze(&mut plain)?, 5);
+    assert!(rt; install(&rt, &mut plain, number));
+    assert_eq!(rt; freeze(&rt, &mut plain), 5);
     Ok(())
 }

@@ -3,8 +3,7 @@
 use crate::calls::look;
 use crate::five_rows::{CE, SHI, are_apart, five, syllable};
 use chew_plain::{Hit, Lexicon, Plain, RowMap};
-use chew_syllable::Syllable;
-use std::test::Fail;
+use chew_syllable::{NoMemory, Syllable};
 
 /// What a hit tells.
 fn parts(hit: &Hit) -> (u8, u8, &str, u32, bool) {
@@ -12,7 +11,7 @@ fn parts(hit: &Hit) -> (u8, u8, &str, u32, bool) {
 }
 
 #[test]
-fn a_system_answers_by_keys(rt: HostRuntime) -> Result<(), Fail> {
+fn a_system_answers_by_keys(rt: HostRuntime) -> Result<(), NoMemory> {
     let rows = five(rt.alloc())?;
     assert_eq!(rt; rows.len(), 5);
     assert!(rt; are_apart(&rows));
@@ -35,7 +34,7 @@ fn a_system_answers_by_keys(rt: HostRuntime) -> Result<(), Fail> {
 }
 
 #[test]
-fn rows_of_a_key_stand_together(rt: HostRuntime) -> Result<(), Fail> {
+fn rows_of_a_key_stand_together(rt: HostRuntime) -> Result<(), NoMemory> {
     let rows = five(rt.alloc())?;
     assert_eq!(rt; rows.len(), 5);
     assert!(rt; are_apart(&rows));
@@ -47,13 +46,13 @@ fn rows_of_a_key_stand_together(rt: HostRuntime) -> Result<(), Fail> {
 }
 
 #[test]
-fn a_look_finds_all_intervals(rt: HostRuntime) -> Result<(), Fail> {
+fn a_look_finds_all_intervals(rt: HostRuntime) -> Result<(), NoMemory> {
     let rows = five(rt.alloc())?;
     assert_eq!(rt; rows.len(), 5);
     assert!(rt; are_apart(&rows));
     let mut plain = Plain::of(rows, 7, 100)?;
     assert_eq!(rt; (plain.life(), plain.pairs()), (7, 5));
-    let hits = look(&mut plain, &[syllable(CE), syllable(SHI)])?;
+    let hits = look(&rt, &mut plain, &[syllable(CE), syllable(SHI)]);
     let found = hits.list();
     assert_eq!(rt; found.len(), 5);
     assert_eq!(rt; parts(&found[0]), (0, 1, "策", 200, false));

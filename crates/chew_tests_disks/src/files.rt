@@ -3,6 +3,7 @@
 use chew_outside::FolderDisk;
 use chew_slot_samples::{Learnt, SaveFault, digest_slot, holds, recovers_to, save};
 use chew_slots::recover;
+use std::alloc::Global;
 use std::fs::{File, OpenOptions};
 use std::path::PathBuf;
 use std::test::Fail;
@@ -39,41 +40,66 @@ fn saved_after(
     new: Learnt,
 ) -> Result<bool, Fail> {
     let mut disk = disk(rt, zero, one)?;
-    let is_old = recovers_to(rt.alloc(), &mut disk, old)?;
-    let mut found = recover(rt.alloc(), &mut disk)?;
-    save(rt.alloc(), &mut found.keep, &mut disk, new)?;
+    saved(rt.alloc(), &mut disk, old, new)
+}
+
+// Whether the disk recovers to the old map; then the new one is saved.
+fn saved(alloc: Global, disk: &mut FolderDisk, old: Learnt, new: Learnt) -> Result<bool, Fail> {
+    let is_old = recovers_to(alloc, disk, old)?;
+    let mut found = recover(alloc, disk)?;
+    save(alloc, &mut found.keep, disk, new)?;
     Ok(is_old)
+}
+
+// Whether the files hold this slot alone.
+fn is_written(rt: &HostRuntime, zero: &PathBuf, one: &PathBuf, slot: &[u8]) -> Result<bool, Fail> {
+    let mut disk = disk(rt, zero, one)?;
+    Ok(holds(rt.alloc(), &mut disk, slot, &[])?)
+}
+
+// Whether the files recover to a map.
+fn is_left(rt: &HostRuntime, zero: &PathBuf, one: &PathBuf, map: Learnt) -> Result<bool, Fail> {
+    let mut disk = disk(rt, zero, one)?;
+    Ok(recovers_to(rt.alloc(), &mut disk, map)?)
+}
+
+// Whether the first slot's bytes are there, and all maps.
+fn outlive(rt: &HostRuntime, zero: &PathBuf, one: &PathBuf) -> Result<(bool, bool), Fail> {
+    let first = saved_after(rt, zero, one, Learnt::Nothing, Learnt::Again(0))?;
+    let slot = is_written(rt, zero, one, &digest_slot(rt.alloc())?)?;
+    let second = saved_after(rt, zero, one, Learnt::Again(0), Learnt::Again(1))?;
+    let third = saved_after(rt, zero, one, Learnt::Again(1), Learnt::Again(2))?;
+    let last = is_left(rt, zero, one, Learnt::Again(2))?;
+    Ok((slot, first && second && third && last))
 }
 
 #[test]
 fn maps_outlive_the_files_being_closed(rt: HostRuntime) -> Result<(), Fail> {
-    let alloc = rt.alloc();
     let zero = path(&rt, "slot0")?;
     let one = path(&rt, "slot1")?;
-    let first = saved_after(&rt, &zero, &one, Learnt::Nothing, Learnt::Again(0))?;
-    let slot = digest_slot(alloc)?;
-    let is_written = holds(alloc, &mut disk(&rt, &zero, &one)?, &slot, &[])?;
-    let second = saved_after(&rt, &zero, &one, Learnt::Again(0), Learnt::Again(1))?;
-    let third = saved_after(&rt, &zero, &one, Learnt::Again(1), Learnt::Again(2))?;
-    let last = recovers_to(alloc, &mut disk(&rt, &zero, &one)?, Learnt::Again(2))?;
+    let (slot, maps) = outlive(&rt, &zero, &one)?;
     fs::remove_file(&rt, zero.as_path())?;
     fs::remove_file(&rt, one.as_path())?;
-    assert!(rt; is_written, "the first slot's bytes");
-    assert!(rt; first && second && third && last, "the maps");
+    assert!(rt; slot, "the first slot's bytes");
+    assert!(rt; maps, "the maps");
     Ok(())
 }
 
 #[test]
 fn a_file_that_cant_be_written_is_a_fault(rt: HostRuntime) -> Result<(), Fail> {
-    let alloc = rt.alloc();
     let name = path(&rt, "fixed")?;
     fs::write(&rt, name.as_path(), [].as_slice())?;
-    let zero = File::open(&rt, name.as_path())?;
-    let one = File::open(&rt, name.as_path())?;
-    let mut disk = FolderDisk::of(zero, one);
-    let mut found = recover(alloc, &mut disk)?;
-    let answer = save(alloc, &mut found.keep, &mut disk, Learnt::Again(0));
+    let answer = saved_in(&rt, &name)?;
     fs::remove_file(&rt, name.as_path())?;
     assert!(rt; answer == Err(SaveFault::Step(1)));
     Ok(())
+}
+
+// What a checkpoint answers over a file that was opened to be read alone.
+fn saved_in(rt: &HostRuntime, name: &PathBuf) -> Result<Result<(), SaveFault>, Fail> {
+    let zero = File::open(rt, name.as_path())?;
+    let one = File::open(rt, name.as_path())?;
+    let mut disk = FolderDisk::of(zero, one);
+    let mut found = recover(rt.alloc(), &mut disk)?;
+    Ok(save(rt.alloc(), &mut found.keep, &mut disk, Learnt::Again(0)))
 }

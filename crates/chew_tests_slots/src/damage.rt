@@ -3,6 +3,7 @@
 use chew_slot_samples::{digest_slot, disk_of, patched, plain_slot, refusal};
 use chew_slots::SlotFault;
 use std::alloc::Global;
+use std::process::Abort;
 use std::test::Fail;
 
 /// Other bytes from a place on, and the place where the slot is damaged then.
@@ -28,21 +29,25 @@ const DIGEST_DAMAGES: [Damage; 6] = [
 ];
 
 // Whether a slot is refused at this place, as slot 0 and as slot 1, beside one that is whole.
-fn is_refused(alloc: Global, slot: &[u8], place: u64) -> Result<bool, Fail> {
-    let whole = plain_slot(alloc)?;
-    let first = refusal(alloc, &mut disk_of(alloc, slot, &whole)?);
-    let second = refusal(alloc, &mut disk_of(alloc, &whole, slot)?);
-    Ok(
-        first == Some(SlotFault::Damaged { slot: 0, place })
-            && second == Some(SlotFault::Damaged { slot: 1, place }),
-    )
+fn is_refused(rt: &impl Abort, alloc: Global, slot: &[u8], place: u64) -> bool {
+    let whole = plain_slot(alloc).expect(rt, "memory");
+    let first = refusal_of(rt, alloc, slot, &whole);
+    let second = refusal_of(rt, alloc, &whole, slot);
+    first == Some(SlotFault::Damaged { slot: 0, place })
+        && second == Some(SlotFault::Damaged { slot: 1, place })
+}
+
+// Why two slots are refused, if they are.
+fn refusal_of(rt: &impl Abort, alloc: Global, zero: &[u8], one: &[u8]) -> Option<SlotFault> {
+    let mut disk = disk_of(alloc, zero, one).expect(rt, "memory");
+    refusal(alloc, &mut disk)
 }
 
 // The same of a slot with other bytes.
-fn is_damaged(alloc: Global, slot: &[u8], damage: Damage) -> Result<bool, Fail> {
+fn is_damaged(rt: &impl Abort, alloc: Global, slot: &[u8], damage: Damage) -> bool {
     let (at, others, place) = damage;
-    let damaged = patched(alloc, slot, at, others)?;
-    is_refused(alloc, &damaged, place)
+    let damaged = patched(alloc, slot, at, others).expect(rt, "memory");
+    is_refused(rt, alloc, &damaged, place)
 }
 
 #[test]
@@ -50,7 +55,7 @@ fn damage_of_the_first_format_is_told(rt: HostRuntime) -> Result<(), Fail> {
     let alloc = rt.alloc();
     let slot = plain_slot(alloc)?;
     for damage in PLAIN_DAMAGES {
-        assert!(rt; is_damaged(alloc, &slot, damage)?, "{}", damage.0);
+        assert!(rt; is_damaged(&rt, alloc, &slot, damage), "{}", damage.0);
     }
     Ok(())
 }
@@ -60,7 +65,7 @@ fn damage_of_the_second_format_is_told(rt: HostRuntime) -> Result<(), Fail> {
     let alloc = rt.alloc();
     let slot = digest_slot(alloc)?;
     for damage in DIGEST_DAMAGES {
-        assert!(rt; is_damaged(alloc, &slot, damage)?, "{}", damage.0);
+        assert!(rt; is_damaged(&rt, alloc, &slot, damage), "{}", damage.0);
     }
     Ok(())
 }
@@ -71,7 +76,7 @@ fn an_image_that_reaches_past_a_short_slot(rt: HostRuntime) -> Result<(), Fail> 
     let alloc = rt.alloc();
     let mut slot = plain_slot(alloc)?;
     slot.truncate(60);
-    assert!(rt; is_damaged(alloc, slot.as_slice(), (25, &[100], 60))?);
+    assert!(rt; is_damaged(&rt, alloc, slot.as_slice(), (25, &[100], 60)));
     Ok(())
 }
 
@@ -80,11 +85,11 @@ fn a_cut_slot_is_damaged_at_its_length(rt: HostRuntime) -> Result<(), Fail> {
     let alloc = rt.alloc();
     let plain = plain_slot(alloc)?;
     for n in 33..127usize {
-        assert!(rt; is_refused(alloc, &plain[..n], n as u64)?, "{n}");
+        assert!(rt; is_refused(&rt, alloc, &plain[..n], n as u64), "{n}");
     }
     let digest = digest_slot(alloc)?;
     for n in 33..159usize {
-        assert!(rt; is_refused(alloc, &digest[..n], n as u64)?, "{n}");
+        assert!(rt; is_refused(&rt, alloc, &digest[..n], n as u64), "{n}");
     }
     Ok(())
 }

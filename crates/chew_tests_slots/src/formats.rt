@@ -6,6 +6,7 @@ use chew_slot_samples::{
 };
 use chew_slots::recover;
 use std::alloc::Global;
+use std::process::Abort;
 use std::test::Fail;
 
 /// The SHA-256 of bytes 1 to 126 of the slot of the second learn, which `sha256sum` told.
@@ -26,18 +27,23 @@ fn second_slot(alloc: Global) -> Result<Vec<u8>, Fail> {
 }
 
 // Whether these slots recover to a map, and stay as they are.
-fn reads_as(alloc: Global, zero: &[u8], one: &[u8], learnt: Learnt) -> Result<bool, Fail> {
-    let mut disk = disk_of(alloc, zero, one)?;
-    let is_read = recovers_to(alloc, &mut disk, learnt)?;
-    Ok(is_read && holds(alloc, &mut disk, zero, one)?)
+fn reads_as(rt: &impl Abort, alloc: Global, zero: &[u8], one: &[u8], learnt: Learnt) -> bool {
+    let mut disk = disk_of(alloc, zero, one).expect(rt, "memory");
+    let is_read = recovers_to(alloc, &mut disk, learnt).expect(rt, "memory");
+    is_read && holds(alloc, &mut disk, zero, one).expect(rt, "the slots")
 }
 
 // The disk with these slots after a map was saved.
 fn saved(alloc: Global, zero: &[u8], one: &[u8], learnt: Learnt) -> Result<MemDisk, Fail> {
     let mut disk = disk_of(alloc, zero, one)?;
-    let mut found = recover(alloc, &mut disk)?;
-    save(alloc, &mut found.keep, &mut disk, learnt)?;
+    save_over(alloc, &mut disk, learnt)?;
     Ok(disk)
+}
+
+// Saves a map over what a disk recovers to.
+fn save_over(alloc: Global, disk: &mut MemDisk, learnt: Learnt) -> Result<(), Fail> {
+    let mut found = recover(alloc, disk)?;
+    Ok(save(alloc, &mut found.keep, disk, learnt)?)
 }
 
 // A slot with ten bytes behind it.
@@ -51,11 +57,17 @@ fn longer(alloc: Global, slot: &[u8]) -> Result<Vec<u8>, Fail> {
 fn the_first_format_is_read(rt: HostRuntime) -> Result<(), Fail> {
     let alloc = rt.alloc();
     let slot = plain_slot(alloc)?;
-    assert!(rt; reads_as(alloc, &slot, &[], Learnt::Again(0))?, "slot 0");
-    assert!(rt; reads_as(alloc, &[], &slot, Learnt::Again(0))?, "slot 1");
+    assert!(rt;
+        reads_as(&rt, alloc, &slot, &[], Learnt::Again(0)),
+        "slot 0"
+    );
+    assert!(rt;
+        reads_as(&rt, alloc, &[], &slot, Learnt::Again(0)),
+        "slot 1"
+    );
     let longer = longer(alloc, &slot)?;
     assert!(rt;
-        reads_as(alloc, &longer, &[], Learnt::Again(0))?,
+        reads_as(&rt, alloc, &longer, &[], Learnt::Again(0)),
         "bytes behind"
     );
     Ok(())
@@ -65,11 +77,17 @@ fn the_first_format_is_read(rt: HostRuntime) -> Result<(), Fail> {
 fn the_second_format_is_read(rt: HostRuntime) -> Result<(), Fail> {
     let alloc = rt.alloc();
     let slot = digest_slot(alloc)?;
-    assert!(rt; reads_as(alloc, &slot, &[], Learnt::Again(0))?, "slot 0");
-    assert!(rt; reads_as(alloc, &[], &slot, Learnt::Again(0))?, "slot 1");
+    assert!(rt;
+        reads_as(&rt, alloc, &slot, &[], Learnt::Again(0)),
+        "slot 0"
+    );
+    assert!(rt;
+        reads_as(&rt, alloc, &[], &slot, Learnt::Again(0)),
+        "slot 1"
+    );
     let longer = longer(alloc, &slot)?;
     assert!(rt;
-        reads_as(alloc, &[], &longer, Learnt::Again(0))?,
+        reads_as(&rt, alloc, &[], &longer, Learnt::Again(0)),
         "bytes behind"
     );
     Ok(())
@@ -78,9 +96,9 @@ fn the_second_format_is_read(rt: HostRuntime) -> Result<(), Fail> {
 #[test]
 fn the_second_format_is_written(rt: HostRuntime) -> Result<(), Fail> {
     let alloc = rt.alloc();
-    let mut disk = saved(alloc, &[], &[], Learnt::Again(0))?;
     let slot = digest_slot(alloc)?;
-    assert!(rt; holds(alloc, &mut disk, &slot, &[])?);
+    let mut disk = saved(alloc, &[], &[], Learnt::Again(0))?;
+    assert!(rt; holds(alloc, &mut disk, &slot, &[]).expect(&rt, "the slots"));
     Ok(())
 }
 
@@ -88,27 +106,33 @@ fn the_second_format_is_written(rt: HostRuntime) -> Result<(), Fail> {
 fn an_old_slot_stays_and_the_next_one_has_the_second_format(rt: HostRuntime) -> Result<(), Fail> {
     let alloc = rt.alloc();
     let old = plain_slot(alloc)?;
-    let mut disk = saved(alloc, &old, &[], Learnt::Again(1))?;
     let new = second_slot(alloc)?;
-    assert!(rt; holds(alloc, &mut disk, &old, &new)?, "bytes");
-    assert!(rt; recovers_to(alloc, &mut disk, Learnt::Again(1))?, "map");
+    let mut disk = saved(alloc, &old, &[], Learnt::Again(1))?;
+    assert!(rt;
+        holds(alloc, &mut disk, &old, &new).expect(&rt, "the slots"),
+        "bytes"
+    );
+    assert!(rt;
+        recovers_to(alloc, &mut disk, Learnt::Again(1)).expect(&rt, "memory"),
+        "map"
+    );
     Ok(())
 }
 
 #[test]
 fn closed_slots_are_the_empty_map(rt: HostRuntime) -> Result<(), Fail> {
     let alloc = rt.alloc();
-    assert!(rt; reads_as(alloc, &[], &[], Learnt::Nothing)?, "no bytes");
+    assert!(rt; reads_as(&rt, alloc, &[], &[], Learnt::Nothing), "no bytes");
     assert!(rt;
-        reads_as(alloc, &[0], &[0], Learnt::Nothing)?,
+        reads_as(&rt, alloc, &[0], &[0], Learnt::Nothing),
         "gates alone"
     );
     assert!(rt;
-        reads_as(alloc, &[0; 41], &[0; 41], Learnt::Nothing)?,
+        reads_as(&rt, alloc, &[0; 41], &[0; 41], Learnt::Nothing),
         "shut gates"
     );
     assert!(rt;
-        reads_as(alloc, &[0xA5; 32], &[0xA5; 32], Learnt::Nothing)?,
+        reads_as(&rt, alloc, &[0xA5; 32], &[0xA5; 32], Learnt::Nothing),
         "32 bytes"
     );
     Ok(())
@@ -120,7 +144,10 @@ fn a_slot_without_all_fields_is_closed(rt: HostRuntime) -> Result<(), Fail> {
     let alloc = rt.alloc();
     let slot = plain_slot(alloc)?;
     for n in 0..33usize {
-        assert!(rt; reads_as(alloc, &slot[..n], &[], Learnt::Nothing)?, "{n}");
+        assert!(rt;
+            reads_as(&rt, alloc, &slot[..n], &[], Learnt::Nothing),
+            "{n}"
+        );
     }
     Ok(())
 }

@@ -1,8 +1,9 @@
 //! The most rows of a slot.
 
 use chew_slot_samples::disk_of;
-use chew_slots::{SlotFault, recover};
+use chew_slots::{Found, SlotFault, recover};
 use std::alloc::Global;
+use std::process::Abort;
 use std::test::Fail;
 
 // More numbers, in four bytes each, the low byte first.
@@ -54,11 +55,23 @@ fn slot(alloc: Global, rows: u32) -> Result<Vec<u8>, Fail> {
 #[test]
 fn a_slot_has_at_most_200000_rows(rt: HostRuntime) -> Result<(), Fail> {
     let alloc = rt.alloc();
-    let most = recover(alloc, &mut disk_of(alloc, &slot(alloc, 200_000)?, &[])?)?;
+    let most = found(&rt, alloc, &slot(alloc, 200_000)?).expect(&rt, "the most");
     assert!(rt; most.life == 7 && most.map.total() == 200_000, "the most");
-    match recover(alloc, &mut disk_of(alloc, &slot(alloc, 200_001)?, &[])?) {
+    Ok(())
+}
+
+#[test]
+fn a_slot_has_no_row_more(rt: HostRuntime) -> Result<(), Fail> {
+    let alloc = rt.alloc();
+    match found(&rt, alloc, &slot(alloc, 200_001)?) {
         Ok(_) => assert!(rt; false, "one row more is read"),
         Err(fault) => assert_eq!(rt; fault, SlotFault::Damaged { slot: 0, place: 41 }),
     }
     Ok(())
+}
+
+// What is found in a slot beside an empty one.
+fn found(rt: &impl Abort, alloc: Global, slot: &[u8]) -> Result<Found, SlotFault> {
+    let mut disk = disk_of(alloc, slot, &[]).expect(rt, "memory");
+    recover(alloc, &mut disk)
 }
