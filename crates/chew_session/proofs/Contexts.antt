@@ -1,9 +1,8 @@
 -- Contexts that type beside each other, and what they did by the whole history.
-use Rattle.std.specs.Prelude.{◌≡◌, ◌≤◌, ◌<◌, ◌+◌, ⊤, ℕ, zero, suc, List, [], ◌∷◌, ◌++◌, All, IfSome, None, Option, Some, drop, flat_map, get_or, length, map, take, refl}
+use Rattle.std.specs.Prelude.{◌≡◌, ◌≤◌, ◌<◌, ◌+◌, ◌-◌, ℕ, zero, suc, List, [], ◌∷◌, ◌++◌, All, drop, flat_map, get_or, length, map, take, refl}
 use Rattle.std.specs.List.{AllZip, range_with_len}
-use Rattle.std.specs.Option.{option_to_list}
 use Rattle.std.proofs.Common.{arith, sym, ap, ap₂, ◌∙◌, subst}
-use Rattle.std.proofs.lemmas.List.{append-nil, append_cancel_right, length-append}
+use Rattle.std.proofs.lemmas.List.{append-nil, length-append, length-take}
 use Rattle.std.proofs.lemmas.List.Elements.{All-cons, All-head, All-nil, All-push, All-tail}
 use Rattle.chew_spec_dictionary.specs.Call.{Call, Reply}
 use Rattle.chew_spec_dictionary.specs.Growth.{IsFront}
@@ -20,10 +19,10 @@ use Rattle.chew_spec_cell.proofs.Sights.{seen-over, seen-own}
 use Rattle.chew_spec_shared.specs.Asked.{IsOf}
 use Rattle.chew_spec_session.specs.Context.{Basis, HandleAll, Handles, calls_with_next}
 use Rattle.chew_spec_session.specs.Session.{ContextEnd}
-use Rattle.chew_session.specs.Crew.{AllRan, AreDone, SeesMore, context_passes, keys_of_all}
-use Rattle.chew_script.specs.Keys.{keys_of}
+use Rattle.chew_session.specs.Crew.{AllRan, AreDone, EachAnswered, IsFresh, SeesMore, context_passes, keys_at, keys_of_all}
 use Rattle.chew_session.specs.Typing.{Ran}
 use Rattle.chew_session.specs.declared.actor.Actor.{Actor}
+use Rattle.chew_session.proofs.Ends.{last-apart}
 
 -- a context more, behind the others
 pub ran-one : (basis : Basis) (who : ℕ) (contexts : List (List KeyStroke)) (passes : List Pass) (ends : List ContextEnd) (keys : List KeyStroke) (pass : Pass) (end : ContextEnd) (number : ℕ)
@@ -141,10 +140,39 @@ done-one basis shared contexts all passes longer ends more keys pass mine end do
     }
 
 -- the keys of one context more
-pub keys-one : (actors : List Actor) (at : ℕ) (other : Actor) → at < length actors → take (suc at) (keys_of_all actors) ≡ take at (keys_of_all actors) ++ keys_of (get_or actors at other).keys.items ∷ []
-keys-one [] at other here = absurd (omega arith)
-keys-one (actor ∷ actors) zero other here = refl
-keys-one (actor ∷ actors) (suc at) other here = ap (λ (ks : List (List KeyStroke)). keys_of actor.keys.items ∷ ks) (keys-one actors at other (omega arith))
+keys-then : (contexts : List (List KeyStroke)) (count : ℕ) → count < length contexts → take (suc count) contexts ≡ take count contexts ++ get_or contexts count [] ∷ []
+keys-then [] count here = absurd (omega arith)
+keys-then (keys ∷ contexts) zero here = refl
+keys-then (keys ∷ contexts) (suc count) here = ap (λ (ks : List (List KeyStroke)). keys ∷ ks) (keys-then contexts count (omega arith))
+
+keys-one : (contexts : List (List KeyStroke)) (count : ℕ) → count < length contexts → take (suc count) contexts ≡ take count contexts ++ keys_at contexts (suc count) ∷ []
+keys-one contexts count here =
+    keys-then contexts count here ∙ ap (λ (n : ℕ). take count contexts ++ get_or contexts n [] ∷ []) (let e : count ≡ suc count - 1 = omega arith in e)
+
+-- how a context may end that types with this pass
+abbrev pub EndsSo : Basis → Cell → List (List KeyStroke) → Pass → Pass × ContextEnd → Type 0
+EndsSo basis shared contexts pass ended = IsOf shared ended.0 × (ended.0.who ≡ pass.who) × Ran basis pass.who (keys_at contexts pass.who) ended.0.seen ended.1
+
+-- the first contexts are done, where each of them ends so
+pub each-done : (basis : Basis) (shared : Cell) (contexts : List (List KeyStroke)) (count : ℕ) (backs : List Pass) (ends : List ContextEnd) → count ≤ length contexts
+    → EachAnswered (EndsSo basis shared contexts) (context_passes shared count) backs ends → AreDone basis shared (take count contexts) backs ends
+each-done basis shared contexts zero [] [] few each = record { ours = All-nil (λ (p : Pass). IsOf shared p); each = refl; ran = tt }
+each-done basis shared contexts zero [] (e ∷ ends) few each = absurd each
+each-done basis shared contexts zero (b ∷ backs) ends few each = absurd each
+each-done basis shared contexts (suc count) backs ends few each =
+    let mine : Pass = record { cell = shared; who = suc count; seen = [] } in
+    let apart = last-apart (EndsSo basis shared contexts) (context_passes shared count) mine backs ends each in
+    let taken = length-take count contexts in
+    done-one basis shared (take count contexts) (take (suc count) contexts) apart.first_backs backs apart.first_ends ends (keys_at contexts (suc count)) mine apart.back apart.end
+    (each-done basis shared contexts count apart.first_backs apart.first_ends (omega arith) apart.first) (omega arith) apart.last.0 apart.last.1 apart.last.2
+    (keys-one contexts count (omega arith)) apart.backs_are apart.ends_are
+
+-- the passes of the first contexts are fresh
+pub each-fresh : (shared : Cell) (contexts count : ℕ) → count ≤ contexts → All (λ pass. IsFresh shared contexts pass) (context_passes shared count)
+each-fresh shared contexts zero few = All-nil (λ (pass : Pass). IsFresh shared contexts pass)
+each-fresh shared contexts (suc count) few =
+    All-push (λ (pass : Pass). IsFresh shared contexts pass) (context_passes shared count) (record { cell = shared; who = suc count; seen = [] })
+    (each-fresh shared contexts count (omega arith)) (record { ours = refl; from_one = omega arith; within = few; unseen = refl })
 
 -- as many passes as contexts
 pub ran-long : (basis : Basis) (who : ℕ) (contexts : List (List KeyStroke)) (passes : List Pass) (ends : List ContextEnd) → AllRan basis who contexts passes ends → length passes ≡ length contexts
@@ -155,45 +183,9 @@ ran-long basis who (k ∷ contexts) [] ends ran = absurd ran
 ran-long basis who (k ∷ contexts) (p ∷ passes) [] ran = absurd ran
 ran-long basis who (k ∷ contexts) (p ∷ passes) (e ∷ ends) ran = ap suc (ran-long basis (suc who) contexts passes ends ran.2)
 
--- the last of the passes, and those before it
-last-of : List Pass → Pass → Pass
-last-of [] other = other
-last-of (p ∷ passes) other = last-of passes p
-
-last-is : (passes : List Pass) (p other : Pass) → last-of (passes ++ p ∷ []) other ≡ p
-unfolding last-of
-last-is [] p other = refl
-last-is (q ∷ passes) p other = last-is passes p q
-
-pub last-pass : (cell : Cell) (count : ℕ) (rest : List Pass) (p : Pass) → context_passes cell (suc count) ≡ rest ++ p ∷ [] → length rest ≡ count
-    → (rest ≡ context_passes cell count) × (p ≡ record { cell = cell; who = suc count; seen = [] })
-last-pass cell count rest p same long =
-    let first : Pass = record { cell = cell; who = suc count; seen = [] } in
-    let one : p ≡ first = sym (last-is rest p p) ∙ ap (λ (ps : List Pass). last-of ps p) (sym same) ∙ last-is (context_passes cell count) first p in
-    (append_cancel_right rest (context_passes cell count) (p ∷ []) (sym same ∙ ap (λ (q : Pass). context_passes cell count ++ q ∷ []) (sym one)), one)
-
 pub passes-are : (cell : Cell) (keeper : Pass) (passes : List Pass) (count : ℕ) → keeper ∷ passes ≡ new_passes cell (count + 1) → passes ≡ context_passes cell count
 passes-are cell keeper passes count same =
     ap (drop 1) (same ∙ ap (new_passes cell) (let e : count + 1 ≡ suc count = omega arith in e) ∙ passes-then cell count)
-
--- what is left once the last pass was taken, and which it is
-pub rest-is : (cell : Cell) (items rest : List Pass) (taken : Option Pass) (n m : ℕ) → items ≡ context_passes cell n → items ≡ rest ++ option_to_list taken → n ≡ length items → m ≡ length rest
-    → rest ≡ context_passes cell m
-rest-is cell items rest None n m is same long short =
-    let whole : items ≡ rest = same ∙ append-nil rest in
-    let lengths = ap length whole in
-    sym whole ∙ is ∙ ap (context_passes cell) (let e : n ≡ m = omega arith in e)
-rest-is cell items rest (Some p) n m is same long short =
-    let lengths = ap length same ∙ length-append rest (p ∷ []) in
-    (last-pass cell m rest p (ap (context_passes cell) (let e : suc m ≡ n = omega arith in e) ∙ sym is ∙ same) (omega arith)).0
-
-pub last-taken : (cell : Cell) (items rest : List Pass) (taken : Option Pass) (n m : ℕ) → items ≡ context_passes cell n → items ≡ rest ++ option_to_list taken → n ≡ length items → m ≡ length rest
-    → IfSome taken (λ pass. (n ≡ m + 1) × (pass ≡ record { cell = cell; who = m + 1; seen = [] }))
-last-taken cell items rest None n m is same long short = tt
-last-taken cell items rest (Some p) n m is same long short =
-    let lengths = ap length same ∙ length-append rest (p ∷ []) in
-    let last = last-pass cell m rest p (ap (context_passes cell) (let e : suc m ≡ n = omega arith in e) ∙ sym is ∙ same) (omega arith) in
-    (omega arith, last.1 ∙ ap (λ (k : ℕ). record { cell = cell; who = k; seen = [] }) (let e : suc m ≡ m + 1 = omega arith in e))
 
 -- as many lists of keys as contexts
 pub keys-long : (actors : List Actor) → length (keys_of_all actors) ≡ length actors

@@ -2,6 +2,7 @@ pub mod Alone
 pub mod Calling
 pub mod Contexts
 pub mod Course
+pub mod Ends
 pub mod Found
 pub mod Handled
 pub mod LastRounds

@@ -1,5 +1,5 @@
 -- The contexts that type beside each other: their passes, their keys, and how they ended.
-use Rattle.std.specs.Prelude.{◌≡◌, ◌≤◌, ⊤, ℕ, zero, suc, List, [], ◌∷◌, ◌++◌, All, IsTrue, length, map}
+use Rattle.std.specs.Prelude.{◌≡◌, ◌≤◌, ◌-◌, ⊤, ℕ, zero, suc, List, [], ◌∷◌, ◌++◌, All, IsTrue, get_or, length, map}
 use Rattle.std.specs.List.{list_all, range_with_len}
 use Rattle.chew_spec_syllable.specs.Row.{Row, is_row}
 use Rattle.chew_spec_dictionary.specs.History.{start_of}
@@ -20,6 +20,10 @@ use Rattle.chew_session.specs.declared.actor.Actor.{Actor}
 abbrev pub keys_of_all : List Actor → List (List text.KeyStroke)
 keys_of_all actors = map (λ actor. keys_of actor.keys.items) actors
 
+-- the keys of the context of a number, counted from 1
+abbrev pub keys_at : List (List text.KeyStroke) → (who : ℕ) → List text.KeyStroke
+keys_at contexts who = get_or contexts (who - 1) []
+
 -- what the contexts may rely on: settings in range, a start of rows, and contexts that are numbered from 1 on in order, each with
 -- keys that are some, and not too many
 pub record MayType (shared : Cell) (settings : Settings) (actors : List Actor) : Type 0 where
@@ -37,6 +41,19 @@ basis_of system settings shared = record { system = system; settings = settings;
 abbrev pub context_passes : Cell → (count : ℕ) → List Pass
 context_passes cell zero = []
 context_passes cell (suc count) = context_passes cell count ++ record { cell = cell; who = suc count; seen = [] } ∷ []
+
+-- a pass of one of so many contexts, with which nothing was seen
+pub record IsFresh (shared : Cell) (contexts : ℕ) (pass : Pass) : Type 0 where
+  pub ours : IsOf shared pass
+  pub from_one : 1 ≤ pass.who
+  pub within : pass.who ≤ contexts
+  pub unseen : pass.seen ≡ []
+
+-- these passes came back, with these ends, each as the typing with it answers by itself
+abbrev pub EachAnswered : (Pass → Pass × ContextEnd → Type 0) → List Pass → List Pass → List ContextEnd → Type 0
+EachAnswered answers [] [] [] = ⊤
+EachAnswered answers (pass ∷ passes) (back ∷ backs) (end ∷ ends) = answers pass (back, end) × EachAnswered answers passes backs ends
+EachAnswered answers _ _ _ = ⊥
 
 -- contexts that typed these keys, numbered from this one on, ended so, by what their passes have seen
 abbrev pub AllRan : Basis → (who : ℕ) → List (List text.KeyStroke) → List Pass → List ContextEnd → Type 0

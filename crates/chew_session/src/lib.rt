@@ -8,6 +8,7 @@ mod beside;
 mod context;
 mod context_end;
 mod crew;
+mod each;
 mod ended;
 mod keying;
 mod last_rounds;
