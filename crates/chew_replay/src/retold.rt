@@ -1,7 +1,6 @@
 ghost use Rattle.std.specs.Prelude.{◌≡◌, IfOk, IsTrue, OnOk, [], length, map, true};
 ghost use Rattle.std.specs.List.{AllZip, list_all};
 ghost use Rattle.chew_spec_outside.specs.Faults.{risen};
-ghost use Rattle.chew_spec_syllable.specs.Row.{is_pair};
 ghost use Rattle.chew_spec_dictionary.specs.History.{answer, is_user_call, start_of};
 ghost use Rattle.chew_plain.specs.Call.{call_of, entry_of, reply_of};
 ghost use Rattle.chew_replay.specs.Found.{IsFoundBy};
@@ -11,6 +10,7 @@ use chew_plain::{Call, Entry, Hit, Plain, Reply, RowRef};
 use chew_script::append_entry;
 use chew_syllable::{Key, NoMemory, Phrase, Run};
 use chew_trie_read::Trie;
+use chew_user_calls::is_of_user;
 use std::alloc::Global;
 use std::marker::Model;
 
@@ -32,47 +32,6 @@ impl Model for Retold {
     ghost view = { λ it. record { point = it.plain; place = it.place } };
 
     ghost invariant = { λ it. IsTrue (list_all is_row it.plain.dictionary.pairs) };
-}
-
-/// Whether a phrase has as many characters as its key has syllables.
-fn are_pair(key: &Key, phrase: &Phrase) -> bool
-    ensures { result ≡ is_pair key.now phrase.now }
-{
-    let syllables = key.list();
-    let _text = phrase.text();
-    phrase.characters() == syllables.len()
-}
-
-/// Whether a call is one that anybody but the keeper may make.
-fn is_of_user(call: &Call) -> bool
-    ensures { result ≡ true → IsTrue (is_user_call (call_of call.now)) }
-{
-    match call {
-        Call::Look(run) => run.list().len() <= 39,
-        Call::Learn {
-            key,
-            phrase,
-            orig,
-            peak,
-        } => {
-            if !are_pair(key, phrase) {
-                return false;
-            }
-            if *orig > *peak {
-                return false;
-            }
-            *peak <= 99_999_999
-        }
-        Call::Forget { key, phrase } => are_pair(key, phrase),
-        Call::Hide { key, phrase } => {
-            if !are_pair(key, phrase) {
-                return false;
-            }
-            key.len() >= 2
-        }
-        Call::Freeze => false,
-        Call::Install(_) => false,
-    }
 }
 
 /// Whether an entry's call is this one: both have the same line in a trace.

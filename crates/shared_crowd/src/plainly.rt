@@ -1,12 +1,12 @@
 //! The plain map, and which snapshot waits.
 
 ghost use Rattle.std.specs.Prelude.{◌≡◌, ◌↔◌, IsTrue, true};
-ghost use Rattle.chew_spec_syllable.specs.Row.{is_pair};
 ghost use Rattle.chew_spec_dictionary.specs.History.{is_user_call};
 ghost use Rattle.chew_plain.specs.Call.{call_of};
 
 use chew_plain::{Call, Plain, Reply};
-use chew_syllable::{Key, NoMemory, Phrase};
+use chew_syllable::NoMemory;
+use chew_user_calls::is_of_user;
 use std::alloc::Global;
 use std::marker::Model;
 
@@ -26,47 +26,6 @@ impl Model for Plainly {
     ghost view = { λ it. it.plain };
 
     ghost invariant = { λ it. it.plain.shape.waiting ≡ it.waiting };
-}
-
-/// Whether a phrase has as many characters as its key has syllables.
-fn are_pair(key: &Key, phrase: &Phrase) -> bool
-    ensures { result ≡ is_pair key.now phrase.now }
-{
-    let syllables = key.list();
-    let _text = phrase.text();
-    phrase.characters() == syllables.len()
-}
-
-/// Whether a call is one that anybody but the keeper may make.
-fn is_of_user(call: &Call) -> bool
-    ensures { result ≡ true → IsTrue (is_user_call (call_of call.now)) }
-{
-    match call {
-        Call::Look(run) => run.list().len() <= 39,
-        Call::Learn {
-            key,
-            phrase,
-            orig,
-            peak,
-        } => {
-            if !are_pair(key, phrase) {
-                return false;
-            }
-            if *orig > *peak {
-                return false;
-            }
-            *peak <= 99_999_999
-        }
-        Call::Forget { key, phrase } => are_pair(key, phrase),
-        Call::Hide { key, phrase } => {
-            if !are_pair(key, phrase) {
-                return false;
-            }
-            key.len() >= 2
-        }
-        Call::Freeze => false,
-        Call::Install(_) => false,
-    }
 }
 
 impl Plainly {
