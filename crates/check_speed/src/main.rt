@@ -22,7 +22,7 @@ fn main(rt: HostRuntime) -> io::Result<()> {
 /// Prints how many bytes a file has, how many of its checks found a fault, and what the fastest took.
 fn measure<R: Env + Files + Print + CpuClock + AllocGlobal>(rt: &R, name: &str) -> io::Result<()> {
     let image = fs::read(rt, name)?;
-    let mut least = u64::MAX;
+    let mut least = Duration::MAX;
     let mut faults = 0u32;
     for _ in 0..CHECKS {
         let before = rt.thread_cpu_time()?;
@@ -30,14 +30,12 @@ fn measure<R: Env + Files + Print + CpuClock + AllocGlobal>(rt: &R, name: &str) 
             faults = faults.saturating_add(1);
         }
         let after = rt.thread_cpu_time()?;
-        least = least.min(micros_of(after.saturating_sub(before)));
+        least = least.min(after.saturating_sub(before));
     }
-    println!(rt; "{} bytes, {faults} faults, {least} us", image.len())?;
+    println!(rt;
+        "{} bytes, {faults} faults, {} us",
+        image.len(),
+        least.as_micros()
+    )?;
     Ok(())
-}
-
-/// A time in millionths of a second.
-fn micros_of(time: Duration) -> u64 {
-    let whole = time.as_secs().saturating_mul(1_000_000);
-    whole.saturating_add(u64::from(time.subsec_micros()))
 }

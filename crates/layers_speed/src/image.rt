@@ -1,8 +1,8 @@
 ghost use Rattle.std.specs.Prelude.{◌≤◌, IsTrue, length};
 ghost use Rattle.chew_spec_dictionary.specs.Dictionary.{is_map};
 
-use crate::failure::Failure;
 use crate::figures::print_time;
+use chew_measuring::Failure;
 use chew_syllable::KeyRow;
 use chew_trie_image::check_image;
 use chew_trie_write::write_image;

@@ -3,10 +3,10 @@ ghost use Rattle.chew_spec_dictionary.specs.Call.{is_proper};
 ghost use Rattle.chew_spec_dictionary.specs.History.{is_keepers};
 ghost use Rattle.chew_plain.specs.Call.{call_of};
 
-use crate::failure::Failure;
 use crate::figures::print_calls;
 use crate::work::Work;
 use chew_layers::Layers;
+use chew_measuring::Failure;
 use chew_plain::{Call, Plain};
 use chew_syllable::{KeyRow, NoMemory};
 use chew_trie_read::Trie;

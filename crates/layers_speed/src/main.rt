@@ -2,7 +2,6 @@
 //! what a freeze, a merge and an install take.
 #![tactic(auto)]
 
-mod failure;
 mod figures;
 mod image;
 mod learning;
@@ -10,12 +9,12 @@ mod opening;
 mod settling;
 mod work;
 
-use crate::failure::Failure;
 use crate::image::print_image;
 use crate::learning::{Learning, measure_calls};
 use crate::opening::rows_of;
 use crate::settling::settle;
 use crate::work::Work;
+use chew_measuring::Failure;
 use chew_syllable::KeyRow;
 use std::alloc::AllocGlobal;
 use std::env;

@@ -2,7 +2,7 @@ ghost use Rattle.std.specs.Prelude.{◌≤◌, IfOk, IsTrue, length};
 ghost use Rattle.chew_spec_syllable.specs.Row.{no_pair_twice};
 ghost use Rattle.chew_spec_dictionary.specs.Dictionary.{is_map};
 
-use crate::failure::Failure;
+use chew_measuring::Failure;
 use chew_outside::{StdSource, read_up_to};
 use chew_plain::sort_rows;
 use chew_rows::{SYSTEM_LIMIT, read_rows};

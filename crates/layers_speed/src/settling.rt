@@ -1,7 +1,7 @@
-use crate::failure::Failure;
 use crate::figures::print_time;
 use crate::learning::Learning;
 use chew_layers::Layers;
+use chew_measuring::Failure;
 use chew_merge::merge;
 use chew_trie_read::Trie;
 use std::alloc::Global;

@@ -1,4 +1,4 @@
-use crate::failure::Failure;
+use chew_measuring::Failure;
 use std::io::Print;
 use std::time::Duration;
 
@@ -9,8 +9,8 @@ const TOLD: [usize; 5] = [5, 10, 11, 20, 39];
 #[derive(Clone, Copy, Drop)]
 struct Times {
     count: u64,
-    nanos: u64,
-    greatest: u64,
+    total: Duration,
+    greatest: Duration,
 }
 
 impl Times {
@@ -18,23 +18,26 @@ impl Times {
     fn none() -> Times {
         Times {
             count: 0,
-            nanos: 0,
-            greatest: 0,
+            total: Duration::ZERO,
+            greatest: Duration::ZERO,
         }
     }
 
     /// With one key more.
-    fn with(self, nanos: u64) -> Times {
+    fn with(self, time: Duration) -> Times {
         Times {
             count: self.count.saturating_add(1),
-            nanos: self.nanos.saturating_add(nanos),
-            greatest: self.greatest.max(nanos),
+            total: self.total.saturating_add(time),
+            greatest: self.greatest.max(time),
         }
     }
 
-    /// The average.
-    fn average(&self) -> u64 {
-        self.nanos.checked_div(self.count).unwrap_or(0)
+    /// The average, in nanoseconds.
+    fn average(&self) -> u128 {
+        self.total
+            .as_nanos()
+            .checked_div(u128::from(self.count))
+            .unwrap_or(0)
     }
 }
 
@@ -65,27 +68,28 @@ impl Figures {
 
     /// Adds the time of a key that ended the syllable of the last of so many cells.
     pub(crate) fn add_syllable(&mut self, cells: usize, time: Duration) {
-        let nanos = nanos_of(time);
-        self.syllables = self.syllables.with(nanos);
+        self.syllables = self.syllables.with(time);
         if cells < 40 {
-            self.by_cells[cells] = self.by_cells[cells].with(nanos);
+            self.by_cells[cells] = self.by_cells[cells].with(time);
         }
     }
 
     /// Adds the time in which a whole line is learnt.
     pub(crate) fn add_commit(&mut self, time: Duration) {
-        self.commits = self.commits.with(nanos_of(time));
+        self.commits = self.commits.with(time);
     }
 
     /// Prints them, in microseconds of processor time.
     pub(crate) fn print<R: Print>(&self, rt: &R) -> Result<(), Failure> {
-        let nanos = self.syllables.nanos.saturating_add(self.commits.nanos);
-        let average = nanos.checked_div(self.keys).unwrap_or(0);
+        let whole = self.syllables.total.saturating_add(self.commits.total);
+        let average = whole
+            .as_nanos()
+            .checked_div(u128::from(self.keys))
+            .unwrap_or(0);
         println!(rt;
-            "{} keys in {} us, {} ns a key",
+            "{} keys in {} us, {average} ns a key",
             self.keys,
-            nanos / 1000,
-            average
+            whole.as_micros()
         )?;
         print_times(rt, "syllables", &self.syllables)?;
         print_times(rt, "lines learnt", &self.commits)?;
@@ -94,12 +98,6 @@ impl Figures {
         }
         Ok(())
     }
-}
-
-/// A time in nanoseconds.
-fn nanos_of(time: Duration) -> u64 {
-    let whole = time.as_secs().saturating_mul(1_000_000_000);
-    whole.saturating_add(u64::from(time.subsec_nanos()))
 }
 
 /// Prints the times of the keys that ended the syllable of the last of so many cells.
@@ -117,7 +115,7 @@ fn print_times<R: Print>(rt: &R, what: &str, times: &Times) -> Result<(), Failur
         "{} {what}, {} ns on average, {} ns at most",
         times.count,
         times.average(),
-        times.greatest
+        times.greatest.as_nanos()
     )?;
     Ok(())
 }

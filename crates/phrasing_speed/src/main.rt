@@ -2,15 +2,14 @@
 //! syllable: a look, and the best segmentation. There is no editor in it.
 #![tactic(auto)]
 
-mod failure;
 mod figures;
 mod opening;
 mod typing;
 
-use crate::failure::Failure;
 use crate::figures::Figures;
 use crate::opening::{keys_of, system_of};
 use crate::typing::Typing;
+use chew_measuring::Failure;
 use chew_script::KeyStroke;
 use std::alloc::AllocGlobal;
 use std::env;

@@ -1,4 +1,4 @@
-use crate::failure::Failure;
+use chew_measuring::Failure;
 use chew_outside::{StdSource, read_up_to};
 use chew_plain::RowMap;
 use chew_rows::{SYSTEM_LIMIT, read_rows};

@@ -4,9 +4,9 @@ ghost use Rattle.chew_spec_dictionary.specs.Call.{is_hit};
 ghost use Rattle.chew_spec_phrasing.specs.CanSegment.{CanSegment};
 ghost use Rattle.chew_spec_phrasing.specs.Combined.{combined_hits};
 
-use crate::failure::Failure;
 use crate::figures::Figures;
 use chew_layouts::{Kind, Layout};
+use chew_measuring::Failure;
 use chew_phrasing::{Piece, best_of_run};
 use chew_plain::{Call, Hit, Hits, Lexicon, Plain, Reply, RowMap};
 use chew_syllable::{Key, NoMemory, Phrase, Run, Step, Syllable};

@@ -1,9 +1,9 @@
 ghost use Rattle.std.specs.Prelude.{◌≤◌, length};
 
 use crate::calls::call_after;
-use crate::failure::Failure;
 use crate::figures::{Measured, Spent};
 use chew_layers::Layers;
+use chew_measuring::Failure;
 use chew_shared_samples::UserCall;
 use chew_trie_read::Trie;
 use std::alloc::AllocGlobal;

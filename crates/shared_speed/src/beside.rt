@@ -6,8 +6,8 @@ ghost use Rattle.chew_spec_shared.specs.Asked.{IsOf};
 
 use crate::alone::CAP;
 use crate::contexts::{Context, Course, crowd, measured, unheard};
-use crate::failure::Failure;
 use crate::figures::{Measured, Spent};
+use chew_measuring::Failure;
 use chew_shared::{KeeperPass, Opened, Shared};
 use chew_shared_samples::{UserCall, install_merge};
 use chew_syllable::NoMemory;

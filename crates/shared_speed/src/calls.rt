@@ -1,5 +1,5 @@
-use crate::failure::Failure;
 use crate::words::Word;
+use chew_measuring::Failure;
 use chew_shared_samples::UserCall;
 use chew_syllable::{Run, Syllable};
 use std::alloc::Global;

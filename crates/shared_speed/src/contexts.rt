@@ -4,9 +4,9 @@ ghost use Rattle.chew_spec_shared.specs.Asked.{IsOf};
 
 use crate::alone::CAP;
 use crate::calls::call_after;
-use crate::failure::Failure;
 use crate::figures::{Measured, Spent};
 use chew_cell::Pass;
+use chew_measuring::Failure;
 use chew_shared::{Opened, Shared};
 use chew_shared_samples::UserCall;
 use chew_trie_read::Trie;

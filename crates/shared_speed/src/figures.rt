@@ -1,4 +1,4 @@
-use crate::failure::Failure;
+use chew_measuring::Failure;
 use std::fmt;
 use std::io::Print;
 use std::time::{Clock, CpuClock, Duration};
@@ -26,12 +26,6 @@ impl Spent {
             by_processors: self.by_processors.saturating_sub(start.by_processors),
         }
     }
-}
-
-/// A time in nanoseconds.
-fn nanos_of(time: Duration) -> u64 {
-    let whole = time.as_secs().saturating_mul(1_000_000_000);
-    whole.saturating_add(u64::from(time.subsec_nanos()))
 }
 
 /// Who made the calls.
@@ -73,22 +67,19 @@ impl Measured {
     /// Prints what a call took.
     pub(crate) fn print<R: Print>(&self, rt: &R, who: Who) -> Result<(), Failure> {
         let calls = self.answered;
-        let by_clock = nanos_of(self.spent.by_clock);
-        let each = by_clock.checked_div(calls).unwrap_or(0);
-        let processors = nanos_of(self.spent.by_processors)
-            .checked_div(calls)
-            .unwrap_or(0);
-        let rate = calls
-            .saturating_mul(1_000_000_000)
-            .checked_div(by_clock)
-            .unwrap_or(0);
+        let count = u128::from(calls);
+        let by_clock = self.spent.by_clock.as_nanos();
+        let by_processors = self.spent.by_processors.as_nanos();
+        let each = by_clock.checked_div(count).unwrap_or(0);
+        let processors = by_processors.checked_div(count).unwrap_or(0);
+        let rate = (count * 1_000_000_000).checked_div(by_clock).unwrap_or(0);
         println!(rt;
             "{who}: {calls} calls, {each} ns each, {rate} a second, {processors} ns of processor time each"
         )?;
         if self.longest != Duration::ZERO {
             println!(rt;
                 "{who}: the longest call took {} ns",
-                nanos_of(self.longest)
+                self.longest.as_nanos()
             )?;
         }
         Ok(())

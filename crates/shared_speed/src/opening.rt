@@ -1,6 +1,6 @@
 ghost use Rattle.std.specs.Prelude.{◌≤◌, IfOk, length};
 
-use crate::failure::Failure;
+use chew_measuring::Failure;
 use chew_trie_read::Trie;
 use chew_trie_write::write_image;
 use std::alloc::AllocGlobal;

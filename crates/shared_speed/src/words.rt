@@ -1,8 +1,8 @@
 ghost use Rattle.std.specs.Prelude.{IsTrue};
 ghost use Rattle.chew_spec_syllable.specs.Row.{is_pair};
 
-use crate::failure::Failure;
 use crate::opening::{Base, map_of};
+use chew_measuring::Failure;
 use chew_samples::five;
 use chew_shared_samples::{UserCall, pair};
 use chew_syllable::{Key, Phrase, Syllable};
