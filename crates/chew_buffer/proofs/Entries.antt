@@ -1,8 +1,8 @@
 -- The entries of a map from pairs to marks are the marks of a layer.
-use Rattle.std.proofs.Common.{◌≡◌, ◌↔◌, ℕ, Bool, true, false, List, [], ◌∷◌, length, refl, ap, ap₂, sym, ◌∙◌, Ordering, Less, Equal, Greater, is_eq, true≢false, option_map, Result, Ok, Err, OnOk, OnErr, arith}
+use Rattle.std.proofs.Common.{◌≡◌, ℕ, Bool, true, false, List, [], ◌∷◌, refl, ap, ap₂, sym, ◌∙◌, Ordering, Less, Equal, Greater, is_eq, true≢false, option_map, Result, Ok, Err, OnOk, OnErr}
 use Rattle.std.specs.Ordering.{match_ordering}
 use Rattle.std.specs.BTreeMap.{insert_entry, is_at}
-use Rattle.std.specs.List.{AllZip, list_all}
+use Rattle.std.specs.List.{list_all}
 use Rattle.std.specs.Map.{lookup}
 use Rattle.std.proofs.lemmas.Bool.{cond-true, cond-false, false_from_ne_true}
 use Rattle.chew_spec_syllable.specs.Row.{Row}
@@ -54,14 +54,6 @@ looked_up (e ∷ es) pair = by (is_mark_of pair.key pair.phrase (mark_at e)) ref
     by true t later = ap (option_map meaning) (cond-true _ _ _ (same_test pair e true t)) ∙ sym (mark_first pair.key pair.phrase (mark_at e) (marks_in es) t)
     by false f later = ap (option_map meaning) (cond-false _ _ _ (same_test pair e false f)) ∙ later ∙ sym (mark_later pair.key pair.phrase (mark_at e) (marks_in es) f)
 
--- no entries are no marks
-pub no_entries : (entries : List (Pair × Mark)) → (length entries ≡ 0) ↔ (marks_in entries ≡ [])
-no_entries [] = (λ _. refl, λ _. refl)
-no_entries (e ∷ es) = (λ n. absurd (omega (arith, n)), λ n. absurd (more n))
-  where
-    more : mark_at e ∷ marks_in es ≡ [] → ⊥
-    more n = let l : length (mark_at e ∷ marks_in es) ≡ 0 = ap length n in omega (arith, l)
-
 -- a mark that is inserted leaves a layer
 pub inserted_layer : (entries : List (Pair × Mark)) (pair : Pair) (mark : Mark) → is_layer (marks_in entries) ≡ true → is_layer (marks_in (insert_entry ranked_cmp entries pair mark)) ≡ true
 inserted_layer entries pair mark l = ap is_layer (inserted entries pair mark) ∙ put_mark_keeps (marked_of pair.key pair.phrase mark) (marks_in entries) l
@@ -70,13 +62,6 @@ inserted_layer entries pair mark l = ap is_layer (inserted entries pair mark) �
 pub inserted_proper : (entries : List (Pair × Mark)) (pair : Pair) (mark : Mark) → is_proper_mark (marked_of pair.key pair.phrase mark) ≡ true → list_all is_proper_mark (marks_in entries) ≡ true
     → list_all is_proper_mark (marks_in (insert_entry ranked_cmp entries pair mark)) ≡ true
 inserted_proper entries pair mark t p = ap (list_all is_proper_mark) (inserted entries pair mark) ∙ all_put_mark is_proper_mark (marked_of pair.key pair.phrase mark) (marks_in entries) t p
-
--- entries that were cloned one by one are the same marks
-pub cloned : (entries copies : List (Pair × Mark)) → AllZip (λ e c. (c.0 ≡ e.0) × (c.1 ≡ e.1)) entries copies → marks_in copies ≡ marks_in entries
-cloned [] [] z = refl
-cloned [] (c ∷ cs) z = absurd z
-cloned (e ∷ es) [] z = absurd z
-cloned (e ∷ es) (c ∷ cs) z = ap₂ (λ (m : Marked) (marks : List Marked). m ∷ marks) (ap₂ (λ (pair : Pair) (mark : Mark). marked_of pair.key pair.phrase mark) z.0.0 z.0.1) (cloned es cs z.1)
 
 -- a fact that follows of either end of a call
 pub either_way : {T E : Type 0} {A B C : Type 0} (r : Result T E) → OnOk r A → OnErr r B → (A → C) → (B → C) → C

@@ -19,7 +19,7 @@ use Rattle.chew_spec_layers.proofs.Marks.{BelowMarks, place}
 use Rattle.chew_spec_layers.proofs.Proper.{proper_pair}
 use Rattle.chew_buffer.specs.declared.mark.Mark.{Mark}
 use Rattle.std.specs.Option.{option_map_or}
-use Rattle.chew_buffer.specs.Left.{is_wanted, left}
+use Rattle.chew_buffer.specs.Rest.{is_wanted, left}
 use Rattle.chew_buffer.specs.Marks.{is_mark_under, marked_of, marks_in, marks_under}
 use Rattle.chew_buffer.specs.Order.{Pair, key_cmp, least_phrase, ranked_cmp}
 use Rattle.chew_buffer.proofs.Entries.{mark_at}
@@ -156,13 +156,3 @@ wanted_first ended only entries rest pair mark f e t =
     ∙ take_while-cons (is_wanted only) m (marks_in rest)
     ∙ cond-true _ _ _ (sym (pair_wanted only m) ∙ t)
     ∙ ap (λ (l : List Marked). m ∷ l) (sym last)
-
--- and where it isn't, nothing is left
-pub unwanted_first : (ended : Bool) (only : Option (List ℕ)) (entries rest : List (Pair × Mark)) (pair : Pair) (mark : Mark) → ended ≡ false → entries ≡ (pair, mark) ∷ rest
-    → option_map_or (bytes_eq pair.key) only true ≡ false → left ended only (marks_in entries) ≡ []
-unwanted_first ended only entries rest pair mark f e t =
-    let m = marked_of pair.key pair.phrase mark in
-    cond-false _ _ _ f
-    ∙ ap (λ (l : List (Pair × Mark)). take_while (is_wanted only) (marks_in l)) e
-    ∙ take_while-cons (is_wanted only) m (marks_in rest)
-    ∙ cond-false _ _ _ (sym (pair_wanted only m) ∙ t)

@@ -31,7 +31,7 @@ pub struct MarksIter<'a> {
 impl<'a> Model for MarksIter<'a> {
     ghost use Rattle.std.specs.Prelude.{List};
     ghost use Rattle.chew_spec_layers.specs.Mark.{Marked};
-    ghost use Rattle.chew_buffer.specs.Left.{left};
+    ghost use Rattle.chew_buffer.specs.Rest.{left};
     ghost use Rattle.chew_buffer.specs.Marks.{marks_in};
 
     ghost Value = { List Marked };

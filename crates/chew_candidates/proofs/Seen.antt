@@ -3,10 +3,7 @@ use Rattle.std.proofs.Common.{◌≡◌, ℕ, suc, ◌+◌, ◌-◌, ◌*◌, �
 use Rattle.std.specs.Prelude.{◌==◌, if◌then◌else◌}
 use Rattle.chew_spec_dictionary.specs.Call.{Hit}
 use Rattle.chew_spec_preedit.specs.Window.{CandidateList, Window, is_window, next_page, on_page, page_before, pages_of, rows_shown, shorter}
-use Rattle.chew_spec_preedit.proofs.Windows.{IsWindow, IsWindow-from, page-holds}
-
-pub IsWindow-seen : (seen now : Window) → seen ≡ now → is_window seen ≡ true → IsWindow now
-IsWindow-seen seen now same e = IsWindow-from now (subst (λ (w : Window). is_window w ≡ true) same e)
+use Rattle.chew_spec_preedit.proofs.Windows.{IsWindow-from, page-holds}
 
 -- the page begins among the rows
 pub start-within : (seen now : Window) (rows : List Hit) (per : ℕ) → seen ≡ now → is_window seen ≡ true → rows ≡ rows_shown now → per ≡ seen.per_page → (seen.page - 1) * per < length rows

@@ -11,7 +11,7 @@ use Rattle.chew_spec_dictionary.specs.History.{Entry, is_legal, start_of}
 use Rattle.chew_spec_layers.specs.Layers.{Waiting}
 use Rattle.chew_spec_layers.specs.Overlay.{overlay}
 use Rattle.chew_spec_slots.specs.Keep.{Keep}
-use Rattle.chew_spec_shared.specs.Snapshot.{IsMerge, IsSnapshot}
+use Rattle.chew_spec_shared.specs.Snapshot.{IsSnapshot}
 use Rattle.chew_spec_rounds.specs.Front.{front_checkpoint, shape_after}
 use Rattle.chew_spec_rounds.specs.InStep.{IsInStep}
 use Rattle.chew_spec_rounds.specs.Round as spec
@@ -50,9 +50,6 @@ pub snapshot-front : (start : Dictionary) (seen : List Entry) (rows : List Row) 
     → record { life = layer.life; rows = overlay rows layer.marks } ≡ front_checkpoint start seen layer.number
 unfolding front_checkpoint
 snapshot-front start seen rows layer is = ap₂ (λ (l : ℕ) (r : List Row). record { life = l; rows = r }) is.life is.map
-
-pub merge-of : (start : Dictionary) (seen : List Entry) (rows map : List Row) (layer : Waiting) → IsSnapshot start seen rows layer → map ≡ overlay rows layer.marks → IsMerge start seen layer.number map
-merge-of start seen rows map layer is same = record { waits = is.waits; map = same ∙ is.map }
 
 -- a round that fails in its writing, whose fault isn't that the seq is spent
 module _ (keep keep_then : Keep) (disk disk_then : DiskState) (start : Dictionary) (seen now : List Entry) (rows : List Row) (layer : Waiting) (grew : Grew seen now (Freeze ∷ []))

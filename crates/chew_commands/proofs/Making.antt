@@ -1,11 +1,11 @@
 -- What a command makes of what was read.
-use Rattle.std.specs.Prelude.{◌≡◌, ℕ, ◌+◌, List, Option, Some, None, Result, Ok, Err}
+use Rattle.std.specs.Prelude.{◌≡◌, ℕ, ◌+◌, List, Option, Some, None, Result, Ok}
 use Rattle.std.proofs.Common.{refl, ap, inl, inr, ◌∙◌, ⊎_elim}
 use Rattle.chew_spec_outside.specs.Source.{ReadsUpTo}
 use Rattle.chew_spec_text.specs.DictionaryText.{system_limit}
 use Rattle.chew_spec_program.specs.Answer.{Gives, answer_to}
 use Rattle.chew_spec_program.specs.Reading.{IsRead, Watched, watched}
-use Rattle.chew_spec_program.specs.Refusal.{Refusal, NoMemory}
+use Rattle.chew_spec_program.specs.Refusal.{Refusal}
 use Rattle.chew_commands.specs.Made.{GivesOrNoMemory, itself}
 use Rattle.chew_commands.specs.Refusals.{IsOrNoMemory}
 
@@ -24,13 +24,3 @@ answered answer from text outcome given is =
     by : (was : Option (List ℕ)) → IsRead from system_limit was → Ok text ≡ answer_to itself was → outcome ≡ answer text → Gives answer from outcome
     by None is e same = absurd cc
     by (Some other) is e same = let one : text ≡ other = cc in record { text = Some other; read = is; gives = same ∙ ap answer one }
-
--- and why nothing is
-pub not_answered : (answer : List ℕ → Result (List ℕ) Refusal) (from : Watched) (refusal : Refusal) → GivesOrNoMemory itself from (Err refusal)
-    → GivesOrNoMemory answer from (Err refusal)
-not_answered answer from refusal given =
-    ⊎_elim (λ (gives : Gives itself from (Err refusal)). inl (by gives.text gives.read gives.gives)) (λ none. inr (let same : refusal ≡ NoMemory = cc in ap Err same)) given
-  where
-    by : (was : Option (List ℕ)) → IsRead from system_limit was → Err refusal ≡ answer_to itself was → Gives answer from (Err refusal)
-    by None is e = record { text = None; read = is; gives = e }
-    by (Some other) is e = absurd cc

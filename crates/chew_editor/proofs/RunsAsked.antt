@@ -20,7 +20,7 @@ use Rattle.chew_spec_editor.specs.Pending.{Pending, runs_asked}
 use Rattle.chew_spec_editor.proofs.BestPieces.{CanSegment-run}
 use Rattle.chew_spec_editor.proofs.PlacedRuns.{split-at}
 use Rattle.chew_spec_editor.proofs.RunsAt.{HasRun-sound, IsRunIn, IsRunIn-split}
-use Rattle.chew_spec_editor.proofs.Steady.{HasRanges, HasRanges-from, IsSteady, IsSteady-from}
+use Rattle.chew_spec_editor.proofs.Steady.{IsSteady, IsSteady-from}
 use Rattle.chew_editor.specs.Phrasable.{ArePhrasable, HasPlace, IsPhrasable}
 
 -- what is found at a run of the buffer
@@ -68,9 +68,6 @@ opens-pending pending e =
 pub steady-pending : (pending : Pending) → is_pending pending ≡ true → IsSteady pending.editor
 unfolding is_pending
 steady-pending pending e = IsSteady-from pending.editor ((and_parts (is_steady pending.editor) (asks_rightly pending) e).0)
-
-pub ranges-pending : (pending : Pending) → is_pending pending ≡ true → HasRanges pending.editor.settings
-ranges-pending pending e = HasRanges-from pending.editor.settings (steady-pending pending e).settings
 
 -- each run that is asked is one of the cells
 is_of-asked : (cells : List Cell) (opens : Option ℕ) (k : ℕ) (run : PlacedRun) → OpensAtSound cells opens

@@ -1,10 +1,10 @@
 -- The rows of a key in the base, one after the other.
-use Rattle.std.proofs.Common.{◌≡◌, ℕ, ◌+◌, ◌<◌, ◌≤◌, true, false, List, [], ◌∷◌, ◌++◌, length, map, ap, ap₂, sym, ◌∙◌, subst, Option, Some, None}
+use Rattle.std.proofs.Common.{◌≡◌, ℕ, ◌+◌, ◌<◌, ◌≤◌, true, false, List, [], ◌∷◌, ◌++◌, length, map, ap, ap₂, sym, ◌∙◌, subst, Option, Some}
 use Rattle.std.specs.List.{find, list_all, slice_get}
 use Rattle.std.specs.Str.{bytes_eq}
 use Rattle.std.proofs.lemmas.Bool.{cond-true, cond-false, and_parts, leb-true}
 use Rattle.std.proofs.lemmas.List.Elements.{filter-append}
-use Rattle.std.proofs.lemmas.List.{map-append, append_assoc, append-nil}
+use Rattle.std.proofs.lemmas.List.{map-append, append_assoc}
 use Rattle.std.proofs.lemmas.Slice.Eq.{bytes_eq-Decides}
 use Rattle.chew_spec_syllable.specs.Row.{Row, is_pair, is_row}
 use Rattle.chew_spec_dictionary.specs.Dictionary.{is_map}
@@ -14,8 +14,8 @@ use Rattle.chew_spec_dictionary.proofs.Rows.{rows_of_map}
 use Rattle.chew_spec_layers.specs.Mark.{Marked}
 use Rattle.chew_spec_layers.specs.Overlay.{unmarked_rows}
 use Rattle.chew_plain.proofs.KeyRows.{has_key, row_among}
-use Rattle.chew_trie_read.specs.Left.{rows_between}
-use Rattle.chew_trie_read.proofs.Among.{rows_more, rows_none}
+use Rattle.chew_trie_read.specs.Rest.{rows_between}
+use Rattle.chew_trie_read.proofs.Among.{rows_more}
 use Rattle.chew_layers.specs.Visible.{base_rows}
 use Rattle.chew_layers.proofs.Picked.{all_picked, picked_pass}
 use Rattle.chew_layers.proofs.Visible.{is_unmarked}
@@ -83,9 +83,6 @@ module _ (base : List Row) (key phrase : List ℕ) (place end : ℕ) (row : Row)
     left = rest_of_key key row _ known;
   }
 
-pub sought_nowhere : (base : List Row) (key phrase : List ℕ) (place end : ℕ) → IsSought base key phrase place end → end ≤ place → row_of base key phrase ≡ None
-sought_nowhere base key phrase place end h le = sym h.found ∙ ap (row_with_phrase phrase) (rows_none base place end le)
-
 -- the rows with no mark in two layers
 abbrev pub bare : (frozen fresh : List Marked) → List Row → List Row
 bare frozen fresh rows = unmarked_rows (unmarked_rows rows frozen) fresh
@@ -130,11 +127,6 @@ pushed_more f base frozen fresh key old now next place end row h less within at 
 
     known : AreOfKey key (row ∷ rest)
     known = subst (AreOfKey key) more h.left
-
-pub pushed_end : (f : Row → Hit) (base : List Row) (frozen fresh : List Marked) (key : List ℕ) (old now : List Hit) (place end : ℕ)
-    → IsPushed f base frozen fresh key old now place end → end ≤ place → now ≡ old ++ map f (base_rows base frozen fresh key)
-pushed_end f base frozen fresh key old now place end h le =
-    sym (append-nil now) ∙ sym (ap (λ (l : List Row). now ++ map f (bare frozen fresh l)) (rows_none base place end le)) ∙ h.whole
 
 -- the row at a place of the walk is of the key, with a phrase that fits it and a frequency in range
 pub pushed_row : (key : List ℕ) (base : List Row) (place end : ℕ) (row : Row) → AreOfKey key (rows_between base place end) → place < end → end ≤ length base → slice_get base place ≡ Some row

@@ -198,8 +198,3 @@ ok_reply (Err x) f a b p e = tt
 -- something isn't nothing
 pub not_none : {X : Type 0} (x : X) → Some x ≡ None → ⊥
 not_none x e = cc
-
--- what waits is told by its number and life
-pub waits_none : {X Y : Type 0} (f : X → Y) (o : Option X) → option_map f o ≡ None → o ≡ None
-waits_none f None e = refl
-waits_none f (Some x) e = absurd (not_none (f x) e)

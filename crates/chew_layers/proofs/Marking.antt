@@ -2,24 +2,13 @@
 use Rattle.std.proofs.Common.{◌≡◌, ℕ, true, List, [], ◌∷◌, ◌++◌, map, ap, sym, ◌∙◌}
 use Rattle.std.specs.List.{list_all}
 use Rattle.std.proofs.lemmas.Bool.{and_parts}
-use Rattle.std.proofs.lemmas.List.Elements.{filter-append, filter_map-append}
 use Rattle.std.proofs.lemmas.List.{map-append, append_assoc, append-nil}
 use Rattle.std.proofs.lemmas.Slice.Eq.{bytes_eq-Decides}
 use Rattle.chew_spec_syllable.specs.Row.{Row}
 use Rattle.chew_spec_dictionary.specs.Call.{Hit}
-use Rattle.chew_spec_layers.specs.Mark.{Marked, is_proper_mark, row_of_mark}
-use Rattle.chew_spec_layers.specs.Overlay.{live_rows, unmarked_rows}
+use Rattle.chew_spec_layers.specs.Mark.{Marked, is_proper_mark}
 use Rattle.chew_buffer.specs.Marks.{is_mark_under, marks_under}
 use Rattle.chew_layers.proofs.Picked.{all_picked, picked_pass}
-use Rattle.chew_layers.proofs.Visible.{is_unmarked}
-
--- the rows of the live marks, and those of them that have no newer mark, come mark by mark
-pub live_more : (m : Marked) (rest : List Marked) → live_rows (m ∷ rest) ≡ live_rows (m ∷ []) ++ live_rows rest
-live_more m rest = filter_map-append (λ (marked : Marked). row_of_mark marked.key marked.phrase marked.mark) (m ∷ []) rest
-
-pub older_more : (newer : List Marked) (m : Marked) (rest : List Marked)
-    → unmarked_rows (live_rows (m ∷ rest)) newer ≡ unmarked_rows (live_rows (m ∷ [])) newer ++ unmarked_rows (live_rows rest) newer
-older_more newer m rest = ap (λ (l : List Row). unmarked_rows l newer) (live_more m rest) ∙ filter-append (is_unmarked newer) (live_rows (m ∷ [])) (live_rows rest)
 
 -- what a walk over the marks of a key, to add the hits of their rows, knows where these are left
 pub record IsAdded (f : Row → Hit) (rows : List Marked → List Row) (key : List ℕ) (all : List Marked) (old now : List Hit) (left : List Marked) : Type 0 where

@@ -1,4 +1,4 @@
-pub mod Held
+pub mod Contents
 pub mod Inside
 pub mod Need
 pub mod OneMore

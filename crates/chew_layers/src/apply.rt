@@ -7,7 +7,7 @@ ghost use Rattle.chew_spec_layers.specs.Layers.{frozen_marks, map_in};
 ghost use Rattle.chew_spec_layers.specs.Overlay.{overlay};
 ghost use Rattle.chew_spec_layers.specs.Standing.{StandForMap};
 ghost use Rattle.chew_plain.specs.Call.{call_of, entry_of, reply_of};
-ghost use Rattle.chew_layers.specs.Held.{row_said};
+ghost use Rattle.chew_layers.specs.Contents.{row_said};
 ghost use Rattle.chew_layers.specs.OneMore.{IsOneMore};
 
 use crate::held::Said;

@@ -6,7 +6,7 @@ ghost use Rattle.chew_spec_dictionary.specs.System.{peak_of, row_of};
 ghost use Rattle.chew_spec_layers.specs.Mark.{is_in_range, is_layer, row_of_mark};
 ghost use Rattle.chew_buffer.specs.Marks.{meaning};
 ghost use Rattle.chew_plain.specs.Look.{hits_at};
-ghost use Rattle.chew_layers.specs.Held.{row_said, rows_held};
+ghost use Rattle.chew_layers.specs.Contents.{row_said, rows_held};
 ghost use Rattle.chew_layers.specs.Shown.{greatest_of_shown};
 
 use crate::seen::visible_hits;

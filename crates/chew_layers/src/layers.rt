@@ -5,7 +5,7 @@ ghost use Rattle.chew_spec_layers.specs.Need.{need_of};
 ghost use Rattle.chew_spec_layers.specs.Overlay.{overlay};
 ghost use Rattle.chew_spec_layers.specs.Standing.{StandForMap};
 ghost use Rattle.chew_plain.specs.Call.{entry_of};
-ghost use Rattle.chew_layers.specs.Held.{rows_held};
+ghost use Rattle.chew_layers.specs.Contents.{rows_held};
 ghost use Rattle.chew_layers.specs.Need.{meaning_of};
 
 use crate::held::Held;

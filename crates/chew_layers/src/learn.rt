@@ -4,7 +4,7 @@ ghost use Rattle.chew_spec_dictionary.specs.Call as calls;
 ghost use Rattle.chew_spec_dictionary.specs.Dictionary.{first_freq, held_freq, learn, put_pair, time_of_learn};
 ghost use Rattle.chew_spec_layers.specs.Layers.{dictionary_in};
 ghost use Rattle.chew_plain.specs.Call.{entry_of, reply_of};
-ghost use Rattle.chew_layers.specs.Held.{row_said};
+ghost use Rattle.chew_layers.specs.Contents.{row_said};
 ghost use Rattle.chew_layers.specs.OneMore.{IsLearn, IsOneMore};
 
 use crate::change::Change;

@@ -17,7 +17,7 @@ use Rattle.chew_spec_layers.specs.Mark.{Mark, Live, Grave, Marked, is_layer, is_
 use Rattle.chew_spec_layers.specs.Overlay.{live_rows, overlay, says_over, unmarked_rows}
 use Rattle.chew_spec_layers.proofs.Marks.{BelowMarks, absent_mark, mark_first, mark_later, of_mark, place}
 use Rattle.chew_spec_layers.proofs.Overlays.{overlay_map, overlay_marked, overlay_says, overlay_unmarked}
-use Rattle.chew_merge.specs.Left.{before, first_cmp}
+use Rattle.chew_merge.specs.Rest.{before, first_cmp}
 
 -- a test that all pass once they are in order
 all_put : (test : Row → Bool) (cmp : Row → Row → Ordering) (row : Row) (rows : List Row) → test row ≡ true → list_all test rows ≡ true → list_all test (put cmp row rows) ≡ true

@@ -8,7 +8,7 @@ use Rattle.chew_spec_dictionary.specs.Dictionary.{is_map}
 use Rattle.chew_spec_layers.specs.Mark.{Marked, is_layer, is_proper_mark, marked_cmp, row_of_mark}
 use Rattle.chew_spec_layers.specs.Overlay.{overlay}
 use Rattle.chew_spec_layers.proofs.Overlays.{overlay_nothing}
-use Rattle.chew_merge.specs.Left.{IsSound, IsStep, Left, ahead, before, first_cmp, rows_together}
+use Rattle.chew_merge.specs.Rest.{IsSound, IsStep, Rest, ahead, before, first_cmp, rows_together}
 use Rattle.chew_merge.proofs.Overlaying.{mark_comes_first, row_comes_first, row_is_hidden}
 
 -- what `next` of an iterator gave of a list, and what it left
@@ -32,7 +32,7 @@ sound_behind rows (Some first) rest m ms e s = record {
 }
 
 -- the first row is below the first mark
-pub row_step : (given : Option Row) (old new : Left) (m : Marked) (ms : List Marked) → IsSound old → old.marks ≡ m ∷ ms → first_cmp old.rows m ≡ Less → Takes given old.rows new.rows → new.marks ≡ old.marks
+pub row_step : (given : Option Row) (old new : Rest) (m : Marked) (ms : List Marked) → IsSound old → old.marks ≡ m ∷ ms → first_cmp old.rows m ≡ Less → Takes given old.rows new.rows → new.marks ≡ old.marks
     → IsStep old given new
 row_step None old new m ms s first less t kept = absurd (true≢false (ap is_lt (sym less ∙ ap (λ (rows : List Row). first_cmp rows m) t.0)))
 row_step (Some row) old new m ms s first less t kept =
@@ -46,7 +46,7 @@ row_step (Some row) old new m ms s first less t kept =
     }
 
 -- the first row has the first mark's pair
-pub hidden_step : (given : Option Row) (old new : Left) (m : Marked) (ms : List Marked) → old.marks ≡ m ∷ ms → first_cmp old.rows m ≡ Equal → Takes given old.rows new.rows → new.marks ≡ old.marks → IsStep old None new
+pub hidden_step : (given : Option Row) (old new : Rest) (m : Marked) (ms : List Marked) → old.marks ≡ m ∷ ms → first_cmp old.rows m ≡ Equal → Takes given old.rows new.rows → new.marks ≡ old.marks → IsStep old None new
 hidden_step None old new m ms first tie t kept = absurd (true≢false (ap is_eq (sym tie ∙ ap (λ (rows : List Row). first_cmp rows m) t.0)))
 hidden_step (Some row) old new m ms first tie t kept =
     let marks : new.marks ≡ m ∷ ms = kept ∙ first in
@@ -59,7 +59,7 @@ hidden_step (Some row) old new m ms first tie t kept =
     }
 
 -- the first mark is below all rows
-pub mark_step : (given : Option Row) (old new : Left) (m : Marked) (ms : List Marked) → IsSound old → old.marks ≡ m ∷ ms → first_cmp old.rows m ≡ Greater → given ≡ row_of_mark m.key m.phrase m.mark
+pub mark_step : (given : Option Row) (old new : Rest) (m : Marked) (ms : List Marked) → IsSound old → old.marks ≡ m ∷ ms → first_cmp old.rows m ≡ Greater → given ≡ row_of_mark m.key m.phrase m.mark
     → old.marks ≡ m ∷ new.marks → new.rows ≡ old.rows → IsStep old given new
 mark_step given old new m ms s first greater e t kept =
     let together = ap (overlay old.rows) t
@@ -75,7 +75,7 @@ mark_step given old new m ms s first greater e t kept =
     by (Some row) together = record { some = together; none = tt; fewer = less }
 
 -- where no mark is left, the rows are those of the map
-pub last_rows : (given : Option Row) (first left new : Left) → rows_together left ≡ rows_together first → IsSound left → left.marks ≡ [] → Takes given left.rows new.rows → new.marks ≡ left.marks
+pub last_rows : (given : Option Row) (first left new : Rest) → rows_together left ≡ rows_together first → IsSound left → left.marks ≡ [] → Takes given left.rows new.rows → new.marks ≡ left.marks
     → Takes given (rows_together first) (rows_together new)
 last_rows given first left new same s none t kept = by given t
   where

@@ -2,7 +2,7 @@ ghost use Rattle.std.specs.Prelude.{◌≡◌, List, [], ◌∷◌, MatchOption}
 ghost use Rattle.std.specs.Iterator.{YieldsFirstBy, item_count};
 ghost use Rattle.chew_spec_layers.specs.Mark.{Marked, row_of_mark};
 ghost use Rattle.chew_buffer.specs.Marks.{meaning};
-ghost use Rattle.chew_merge.specs.Left.{IsSound, IsStep, first_cmp, rows_together};
+ghost use Rattle.chew_merge.specs.Rest.{IsSound, IsStep, first_cmp, rows_together};
 ghost use Rattle.chew_merge.specs.MarkRefs.{marked};
 
 use crate::rows::{live_row, next_row};
@@ -24,10 +24,10 @@ pub(crate) struct Overlaid<'a> {
 
 impl<'a> Model for Overlaid<'a> {
     ghost use Rattle.std.specs.Prelude.{option_map};
-    ghost use Rattle.chew_merge.specs.Left.{IsSound, Left, ahead};
+    ghost use Rattle.chew_merge.specs.Rest.{IsSound, Rest, ahead};
     ghost use Rattle.chew_merge.specs.MarkRefs.{marked};
 
-    ghost Value = { Left };
+    ghost Value = { Rest };
 
     ghost view = { λ it. record { rows = ahead it.row it.rows; marks = ahead (option_map marked it.mark) it.marks } };
 

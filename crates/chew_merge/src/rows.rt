@@ -3,7 +3,7 @@ ghost use Rattle.std.specs.List.{list_all};
 ghost use Rattle.chew_spec_syllable.specs.Row.{is_row};
 ghost use Rattle.chew_spec_layers.specs.Mark.{is_proper_mark, row_of_mark};
 ghost use Rattle.chew_buffer.specs.Marks.{marked_of, meaning};
-ghost use Rattle.chew_merge.specs.Left.{ahead};
+ghost use Rattle.chew_merge.specs.Rest.{ahead};
 
 use chew_buffer::{Mark, MarkRef};
 use chew_syllable::{KeyRow, Phrase};

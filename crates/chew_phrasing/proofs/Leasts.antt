@@ -1,5 +1,5 @@
 -- The first of hits to be shown, one more at a time, and in their order.
-use Rattle.std.proofs.Common.{◌≡◌, Bool, true, false, ⊎_elim, List, [], ◌∷◌, ◌++◌, append-nil, Contains, Option, Some, None, is_lt, sym, refl, ap, ◌∙◌, subst, true≢false, arith}
+use Rattle.std.proofs.Common.{◌≡◌, Bool, true, false, ⊎_elim, List, [], ◌∷◌, ◌++◌, append-nil, Contains, Option, Some, None, is_lt, sym, refl, ap, ◌∙◌, subst, true≢false}
 use Rattle.std.specs.Cmp.{IsStrictWeakOrder}
 use Rattle.std.proofs.lemmas.List.Elements.{Contains-append_cases, Contains-append_left, Contains-push}
 use Rattle.std.proofs.lemmas.List.MinMax.{ranks_by}
@@ -13,13 +13,6 @@ use Rattle.chew_phrasing.specs.Least.{IsBefore, IsLeast, comes_before}
 
 order : IsStrictWeakOrder (λ (x y : Hit). is_lt (shown_hit_cmp x y))
 order = ranks_by shown_hit_total (λ x. x)
-
--- of no hits none is the first
-pub IsLeast-none : (passes : Hit → Bool) → IsLeast passes [] None
-IsLeast-none passes = record {
-  some = λ hit e. absurd (none-some hit e);
-  none = λ e hit i. absurd (omega (arith, i.1));
-}
 
 -- nothing more
 pub IsLeast-same : (passes : Hit → Bool) (before more : List Hit) (first : Option Hit) → more ≡ [] → IsLeast passes before first → IsLeast passes (before ++ more) first

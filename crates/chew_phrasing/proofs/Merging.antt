@@ -9,17 +9,6 @@ use Rattle.chew_spec_phrasing.proofs.Membership.{Contains-single}
 use Rattle.chew_phrasing.specs.Table.{Entry}
 use Rattle.chew_phrasing.specs.Merge.{Beats, HasAtLeast, IsMerged}
 
-not_in_none : (entry : Entry) → Contains [] entry → ⊥
-not_in_none entry h = omega (arith, h.1)
-
--- nothing of nothing
-pub IsMerged-none : IsMerged [] [] []
-IsMerged-none = record {
-  from = λ entry h. absurd (not_in_none entry h);
-  own_kept = λ entry h. absurd (not_in_none entry h);
-  other_kept = λ entry h. absurd (not_in_none entry h);
-}
-
 kept_before : (all more : List Entry) (entry : Entry) → HasAtLeast all entry → HasAtLeast (all ++ more) entry
 kept_before all more entry h = record { top = h.top; among = Contains-append_left all more h.top h.among; is = h.is }
 

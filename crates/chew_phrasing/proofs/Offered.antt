@@ -58,17 +58,6 @@ module _ (passes : Hit → Bool) (before : List Hit) (first : Option Hit) (h : I
       (subst (λ more. IsLeast passes (before ++ more) (Some (row_hit at phrase freq))) (sym (ap (λ b. cond b [] (row_hit at phrase freq ∷ [])) e))
       (IsLeast-taken passes before first (row_hit at phrase freq) sooner does h))
 
--- one hit more of those that were found
-pub found_more : (hits : List Hit) (i : ℕ) (hit : Hit) → i < length hits → hit ≡ get_or hits i hit → map as_shown (filter is_shown (take (i + 1) hits)) ≡ map as_shown (filter is_shown (take i hits)) ++ found_one hit
-found_more hits i hit h e =
-    ap (λ xs. map as_shown (filter is_shown xs)) (take_more hits i hit h ∙ ap (λ x. take i hits ++ (x ∷ [])) (sym e))
-    ∙ (ap (map as_shown) (filter-append is_shown (take i hits) (hit ∷ []))
-    ∙ (map-append as_shown (filter is_shown (take i hits)) (filter is_shown (hit ∷ [])) ∙ ap (λ xs. map as_shown (filter is_shown (take i hits)) ++ xs) (by_test (is_shown hit))))
-  where
-    by_test : (b : Bool) → map as_shown (cond b (hit ∷ []) []) ≡ cond b (as_shown hit ∷ []) []
-    by_test true = refl
-    by_test false = refl
-
 -- one row more of the system's
 pub rows_more : (found : List Hit) (at : Interval) (rows : List Row) (i : ℕ) (row : Row) → i < length rows → row ≡ get_or rows i row
     → map (shown_hit at) (filter (is_free_of found) (take (i + 1) rows)) ≡ map (shown_hit at) (filter (is_free_of found) (take i rows)) ++ free_one found at row.phrase row.freq

@@ -41,11 +41,6 @@ row_of_key rows key start end i row together within each below there =
       freq = leb-true row.freq greatest_freq parts.1;
     }
 
--- all rows of the key are those up to its end
-pub length-rows_of : (rows : List Row) (key : List ℕ) (start end i : ℕ) → take (end - start) (drop start rows) ≡ rows_of rows key → end - start ≤ i → length (rows_of rows key) ≤ i
-length-rows_of rows key start end i together past =
-    omega (arith, ap (λ l. length l) together, length-take (end - start) (drop start rows))
-
 -- a row between the places of a key's rows
 pub row_between : (rows : List Row) (key : List ℕ) (start end i : ℕ) (row : Row) → AreOfKey rows start end key → i < end - start → slice_get rows (start + i) ≡ Some row
     → (i < length (rows_between rows start end)) × (row ≡ get_or (rows_between rows start end) i row)

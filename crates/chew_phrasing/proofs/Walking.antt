@@ -9,7 +9,7 @@ use Rattle.std.proofs.lemmas.Option.{none-some, same_Some}
 use Rattle.chew_spec_dictionary.specs.Look.{Interval}
 use Rattle.chew_spec_phrasing.specs.Segmentation.{IsSegmentation, lengths}
 use Rattle.chew_spec_phrasing.specs.Usable.{Piece, phrase_len}
-use Rattle.chew_phrasing.specs.Table.{CanGoOn, Entry, GoesOn, HasOrder, Leads, Stands}
+use Rattle.chew_phrasing.specs.Table.{CanGoOn, Entry, GoesOn, HasOrder, Leads}
 use Rattle.chew_phrasing.proofs.Stands.{parts_of}
 
 -- what is left of an order once some of its pieces are there
@@ -24,11 +24,6 @@ pub next_unique : (levels : List (List Entry)) (left : ℕ) (entry next other : 
 next_unique levels left entry next other h i =
     let same : h.level ≡ i.level = same_Some h.level i.level (sym h.is_level ∙ i.is_level) in
     same_Some next other (sym h.is ∙ (ap (λ level. slice_get level entry.rest) same ∙ i.is))
-
--- at the start everything remains
-pub Remains-all : (usable : Interval → Option Piece) (levels : List (List Entry)) (n : ℕ) (entry : Entry) (order done : List Piece) → done ≡ [] → Stands usable levels n n entry order → Remains usable levels n n entry done order
-Remains-all usable levels n entry order done none h =
-    record { rest = order; is_one = h.is_one; leads = h.leads; joined = ap (λ xs. xs ++ order) none }
 
 -- at the end nothing
 pub Remains-none : (usable : Interval → Option Piece) (levels : List (List Entry)) (n left : ℕ) (entry : Entry) (done order : List Piece) → left ≡ 0 → Remains usable levels n left entry done order → done ≡ order

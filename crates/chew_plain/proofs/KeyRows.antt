@@ -6,7 +6,7 @@ use Rattle.std.specs.List.Sorted.{IsPartitionedBy, IsPartitionPoint}
 use Rattle.std.specs.Str.{bytes_eq}
 use Rattle.std.specs.Cmp.Lexicographic.{slice_cmp}
 use Rattle.std.specs.Ordering.{ordering_then, ordering_reverse}
-use Rattle.std.proofs.lemmas.Bool.{cond-true, cond-false, cond_both, cases_Bool, false_from_ne_true, and_parts}
+use Rattle.std.proofs.lemmas.Bool.{cond-true, cond-false, cases_Bool, false_from_ne_true, and_parts}
 use Rattle.std.proofs.lemmas.Cmp.{tied_itself}
 use Rattle.std.proofs.lemmas.Slice.Eq.{bytes_eq-Decides}
 use Rattle.std.proofs.lemmas.Map.Lookups.{exact_bytes}
@@ -195,11 +195,6 @@ rows_found_in_rest key rows low count inside front back long =
     ∙ rows_found key rows low count inside front
     (subst (λ (l : List Row). IsPartitionPoint (λ row. not (is_lt (key_cmp key row.key)) ≡ true) (λ row. not (is_lt (key_cmp key row.key)) ≡ false) l count) (take_rest rows low) back)
     (subst (λ (l : List Row). count ≤ length l) (take_rest rows low) long)
-
--- a key has at most all rows
-pub few_under : (key : List ℕ) (rows : List Row) → length (rows_under rows key) ≤ length rows
-few_under key [] = omega arith
-few_under key (row ∷ rows) = cond_both (is_under key row) (row ∷ rows_under rows key) (rows_under rows key) (λ l. length l ≤ suc (length rows)) (λ _. omega (arith, few_under key rows)) (λ _. omega (arith, few_under key rows))
 
 -- some row passes a test where those that pass are not none
 pub any_kept : (test : Row → Bool) (rows : List Row) → not (length (filter test rows) == 0) ≡ list_any test rows

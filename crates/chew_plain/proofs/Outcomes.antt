@@ -1,6 +1,6 @@
 -- What a learn and a hide come to, by whether the pair is held, is hidden, and finds room.
-use Rattle.std.proofs.Common.{◌≡◌, ℕ, ◌+◌, ◌-◌, ◌≤◌, ◌<◌, ◌^◌, Bool, true, false, cond, not, max, List, [], ◌∷◌, length, refl, ap, ap₂, sym, ◌∙◌, nat_le, if◌then◌else◌, is_some, Option, Some, None, Result, Ok, Err, OnOk, OnErr, arith}
-use Rattle.std.proofs.lemmas.Bool.{cond_both, cond-true, cond-false}
+use Rattle.std.proofs.Common.{◌≡◌, ℕ, ◌+◌, ◌-◌, ◌<◌, ◌^◌, Bool, true, false, cond, not, max, List, [], ◌∷◌, length, refl, ap, ap₂, sym, ◌∙◌, nat_le, if◌then◌else◌, is_some, Option, Some, None, Result, Ok, Err, OnOk, OnErr, arith}
+use Rattle.std.proofs.lemmas.Bool.{cond-true, cond-false}
 use Rattle.chew_spec_syllable.specs.Row.{Row, is_pair_of}
 use Rattle.chew_spec_dictionary.specs.Frequency.{update}
 use Rattle.chew_spec_dictionary.specs.Call.{Full, NotThere, Forgot}
@@ -20,11 +20,6 @@ without_absent key phrase (row ∷ rows) e = by (is_pair_of key phrase row) refl
     by : (b : Bool) → is_pair_of key phrase row ≡ b → (row_of rows key phrase ≡ None → without key phrase rows ≡ rows) → cond (not b) (row ∷ without key phrase rows) (without key phrase rows) ≡ row ∷ rows
     by true t later = absurd (some_not_none row (sym (found_first key phrase row rows t) ∙ e))
     by false f later = ap (λ l. row ∷ l) (later (sym (found_later key phrase row rows f) ∙ e))
-
--- what is left is no more
-pub fewer_without : (key phrase : List ℕ) (rows : List Row) → length (without key phrase rows) ≤ length rows
-fewer_without key phrase [] = omega arith
-fewer_without key phrase (row ∷ rows) = cond_both (not (is_pair_of key phrase row)) (row ∷ without key phrase rows) (without key phrase rows) (λ l. length l ≤ length (row ∷ rows)) (λ _. omega (arith, fewer_without key phrase rows)) (λ _. omega (arith, fewer_without key phrase rows))
 
 -- a forget leaves the map without the pair, and tells whether it was held
 pub forget_left : (had : Dictionary) (key phrase : List ℕ) → (forget had key phrase).left ≡ record had { pairs = without key phrase had.pairs }

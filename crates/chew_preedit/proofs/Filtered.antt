@@ -1,8 +1,6 @@
 -- A loop that pushes what passes a test.
-use Rattle.std.proofs.Common.{◌≡◌, ℕ, zero, suc, ◌+◌, ◌<◌, ◌≤◌, Bool, true, false, cond, List, [], ◌∷◌, ◌++◌, length, get_or, take, map, filter, refl, ap, sym, ◌∙◌, arith}
-use Rattle.std.proofs.lemmas.Bool.{cond-false, cond-true}
-use Rattle.std.proofs.lemmas.List.{append-nil, append_assoc, length-append, length-map, map-append}
-use Rattle.std.proofs.lemmas.List.Elements.{filter_more}
+use Rattle.std.proofs.Common.{◌≡◌, ℕ, zero, suc, ◌+◌, ◌<◌, ◌≤◌, Bool, true, false, cond, List, [], ◌∷◌, ◌++◌, length, get_or, take, map, filter, refl, ap, arith}
+use Rattle.std.proofs.lemmas.List.{length-append, length-map}
 
 one_more : {X : Type 0} (b : Bool) (x : X) (xs ys : List X) → length xs + 1 ≤ length ys → length (cond b (x ∷ xs) xs) + 1 ≤ length (cond b (x ∷ ys) ys)
 one_more true x xs ys l = omega arith
@@ -17,20 +15,6 @@ pub length-filter_front : {X : Type 0} (p : X → Bool) (xs : List X) (i : ℕ) 
 length-filter_front p [] i d l e = absurd (omega arith)
 length-filter_front p (x ∷ xs) zero d l e = first_more (p x) x (filter p xs) e
 length-filter_front p (x ∷ xs) (suc i) d l e = one_more (p x) x (filter p (take i xs)) (filter p xs) (length-filter_front p xs i d (omega arith) e)
-
--- what was pushed with one more that passes, and without one that fails
-pub filter_more-passes : {X Y : Type 0} (p : X → Bool) (f : X → Y) (had now : List Y) (xs : List X) (i : ℕ) (d : X) → i < length xs → p (get_or xs i d) ≡ true
-    → now ≡ had ++ map f (filter p (take i xs)) → now ++ (f (get_or xs i d) ∷ []) ≡ had ++ map f (filter p (take (i + 1) xs))
-filter_more-passes p f had now xs i d l e h =
-    ap (λ ys. ys ++ (f (get_or xs i d) ∷ [])) h
-    ∙ (append_assoc had (map f (filter p (take i xs))) (f (get_or xs i d) ∷ [])
-    ∙ ap (λ ys. had ++ ys) (sym (ap (map f) (filter_more p xs i d l ∙ ap (λ ys. filter p (take i xs) ++ ys) (cond-true (p (get_or xs i d)) (get_or xs i d ∷ []) [] e))
-    ∙ map-append f (filter p (take i xs)) (get_or xs i d ∷ []))))
-
-pub filter_more-fails : {X Y : Type 0} (p : X → Bool) (f : X → Y) (had now : List Y) (xs : List X) (i : ℕ) (d : X) → i < length xs → p (get_or xs i d) ≡ false
-    → now ≡ had ++ map f (filter p (take i xs)) → now ≡ had ++ map f (filter p (take (i + 1) xs))
-filter_more-fails p f had now xs i d l e h =
-    h ∙ ap (λ ys. had ++ map f ys) (sym (filter_more p xs i d l ∙ (ap (λ ys. filter p (take i xs) ++ ys) (cond-false (p (get_or xs i d)) (get_or xs i d ∷ []) [] e) ∙ append-nil (filter p (take i xs)))))
 
 -- there is room for it
 pub room_before : {X : Type 0} (p : X → Bool) (had now xs : List X) (i : ℕ) (d : X) → i < length xs → p (get_or xs i d) ≡ true

@@ -25,9 +25,9 @@ impl Model for Retold {
     ghost use Rattle.std.specs.Prelude.{IsTrue};
     ghost use Rattle.std.specs.List.{list_all};
     ghost use Rattle.chew_spec_syllable.specs.Row.{is_row};
-    ghost use Rattle.chew_replay.specs.Told.{Told};
+    ghost use Rattle.chew_replay.specs.Progress.{Progress};
 
-    ghost Value = { Told };
+    ghost Value = { Progress };
 
     ghost view = { λ it. record { point = it.plain; place = it.place } };
 

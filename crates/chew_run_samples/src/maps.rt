@@ -1,7 +1,7 @@
 //! The user's map that is found on a disk.
 
 ghost use Rattle.std.specs.Prelude.{IfOk};
-ghost use Rattle.chew_run_samples.specs.Left.{IsLeft};
+ghost use Rattle.chew_run_samples.specs.CrashFinds.{IsLeft};
 
 use chew_outside::MemDisk;
 use chew_slots::{Found, SlotFault, recover};

@@ -1,12 +1,10 @@
 -- Keys that are added to a context, and what that makes of a script.
-use Rattle.std.proofs.Common.{◌≡◌, ℕ, zero, suc, ◌+◌, ◌-◌, ◌<◌, ◌≤◌, List, [], ◌∷◌, ◌++◌, length, get_or, set, Option, Some, None, Result, Ok, Err, refl, ap, sym, ◌∙◌, arith, length-append, All}
+use Rattle.std.proofs.Common.{◌≡◌, ℕ, zero, suc, ◌+◌, ◌-◌, ◌<◌, ◌≤◌, List, [], ◌∷◌, ◌++◌, length, get_or, set, Option, Some, None, Result, Ok, refl, ap, sym, ◌∙◌, arith, length-append}
 use Rattle.std.specs.Option.{option_map, ok_or}
-use Rattle.std.proofs.lemmas.Bool.{cond-true, cond-false, le-leb, lt-leb}
-use Rattle.std.proofs.lemmas.List.Sums.{sum_by-cons, get_or-le-sum_by}
-use Rattle.std.proofs.lemmas.List.Elements.{All-from_get_or}
+use Rattle.std.proofs.lemmas.List.Sums.{sum_by-cons}
 use Rattle.chew_spec_text.specs.KeyStroke.{KeyStroke}
 use Rattle.chew_spec_text.specs.Script as spec
-use Rattle.chew_spec_text.specs.Script.{Script, add_keys, key_line, keys_count, keys_limit, with_script_line}
+use Rattle.chew_spec_text.specs.Script.{Script, add_keys, keys_count}
 use Rattle.chew_script.specs.Lines.{added}
 use Rattle.chew_script.specs.Sound.{IsSound}
 
@@ -49,37 +47,8 @@ added_there number (Some more) before opened now had new count first same there 
     sym (same more) ∙ (add_at (number - 1) more opened (omega arith) ∙ (ap (λ (l : List KeyStroke). set opened (number - 1) (l ++ more)) was ∙ (ap (set opened (number - 1)) joined ∙ sym now_is))) in
     cc
 
-pub not_added : {cause : spec.ScriptCause} (number : ℕ) (o : Option (List KeyStroke)) (before : List (List KeyStroke)) (had : List KeyStroke)
-    → ok_or (option_map (λ more. had ++ more) o) spec.Key ≡ Err cause → added number o before ≡ Err cause
-not_added number None before had e = cc
-not_added number (Some more) before had e = absurd cc
-
 both : {X Y E : Type 0} (a c : X) (b d : Y) → ◌≡◌ {A = Result (X × Y) E} (Ok (a, b)) (Ok (c, d)) → (a ≡ c) × (b ≡ d)
 both {X} {Y} a c b d e = let pair : (a, b) ≡ (c, d) = cc in (ap (λ (p : X × Y). p.0) pair, ap (λ (p : X × Y). p.1) pair)
-
--- what the keys of a line make of a script
-pub line_added : (number count more : ℕ) (o : Option (List KeyStroke)) (script : Script) (lists : List (List KeyStroke))
-    → added number o script.contexts ≡ Ok (lists, more) → count ≡ keys_count script.contexts → count + more ≤ 65_536
-    → with_script_line script (key_line (Some number) o) ≡ Ok (record script { contexts = lists })
-line_added number count more None script lists e counted few = absurd cc
-line_added number count more (Some keys) script lists e counted few =
-    let parts = both (add_keys (number - 1) keys script.contexts) lists (length keys) more e in
-    let is = parts.0 in
-    let long = parts.1 in
-    cond-true _ _ _ (le-leb (keys_count script.contexts + length keys) keys_limit (omega arith)) ∙ ap (λ (l : List (List KeyStroke)). Ok (record script { contexts = l })) is
-
-pub line_too_long : (number count more : ℕ) (o : Option (List KeyStroke)) (script : Script) (lists : List (List KeyStroke))
-    → added number o script.contexts ≡ Ok (lists, more) → count ≡ keys_count script.contexts → 65_536 < count + more
-    → with_script_line script (key_line (Some number) o) ≡ Err spec.Keys
-line_too_long number count more None script lists e counted many = absurd cc
-line_too_long number count more (Some keys) script lists e counted many =
-    let long = (both (add_keys (number - 1) keys script.contexts) lists (length keys) more e).1 in
-    cond-false _ _ _ (lt-leb (keys_count script.contexts + length keys) keys_limit (omega arith))
-
-pub line_faulty : {cause : spec.ScriptCause} (number : ℕ) (o : Option (List KeyStroke)) (script : Script)
-    → added number o script.contexts ≡ Err cause → with_script_line script (key_line (Some number) o) ≡ Err cause
-line_faulty number None script e = cc
-line_faulty number (Some keys) script e = absurd cc
 
 pub sound_added : (number count more : ℕ) (o : Option (List KeyStroke)) (script : Script) (lists : List (List KeyStroke))
     → added number o script.contexts ≡ Ok (lists, more) → 1 ≤ number → number ≤ 16 → count + more ≤ 65_536 → IsSound count script
@@ -95,12 +64,6 @@ sound_added number count more (Some keys) script lists e first last few sound =
       few_contexts = let short = few_added (number - 1) 16 keys script.contexts (omega arith) sound.few_contexts in omega (arith, ap length is);
       few_rounds = sound.few_rounds;
     }
-
--- no context has more keys than all of them
-pub few_each : (count : ℕ) (script : Script) → IsSound count script → All (λ keys. length keys ≤ 65_536) script.contexts
-few_each count script sound =
-    All-from_get_or (λ keys. length keys ≤ 65_536) script.contexts []
-    (λ i h. omega (arith, get_or-le-sum_by length script.contexts i [] h, sound.counted, sound.few_keys))
 
 -- the keys of a context never become fewer
 pub grown : (had new : List KeyStroke) (o : Option (List KeyStroke)) → ok_or (option_map (λ more. had ++ more) o) spec.Key ≡ Ok new → length had ≤ length new

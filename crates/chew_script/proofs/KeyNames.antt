@@ -180,11 +180,6 @@ unfolding keys_in
 no_keys [] h = refl
 no_keys (x ∷ text) h = absurd (omega arith)
 
--- the first byte, and the text behind it
-pub name_first : (text : List ℕ) → 1 ≤ length text → get_or text 0 0 ≡ 60 → text ≡ 60 ∷ drop 1 text
-name_first [] h e = absurd (omega arith)
-name_first (x ∷ text) h e = ap (λ (b : ℕ). b ∷ text) e
-
 pub char_first : (text : List ℕ) → 1 ≤ length text → (get_or text 0 0 ≡ 60 → ⊥) → keys_in text ≡ option_map (λ keys. Char (get_or text 0 0) ∷ keys) (keys_in (drop 1 text))
 char_first [] h e = absurd (omega arith)
 char_first (x ∷ text) h e = char_front x text e

@@ -32,10 +32,6 @@ pub on-err-from : {V E : Type 0} (p : Type 0) (r : Result V E) → p → OnErr r
 on-err-from p (Ok v) h = tt
 on-err-from p (Err x) h = h
 
-pub on-err-of : {V E : Type 0} (p q : Type 0) (r : Result V E) → (p → q) → OnErr r p → OnErr r q
-on-err-of p q (Ok v) f h = tt
-on-err-of p q (Err x) f h = f h
-
 module _ (system : List Row) (start : Point) (who : ℕ) (key : KeyStroke) (had : Editor) where
   -- a key that made no call
   turns-done : (next editor : Editor) (line : Line) (seen : List Entry) (text roomy longer : List ℕ) → Done next line ≡ press system had key → editor ≡ next

@@ -4,9 +4,9 @@ use Rattle.std.proofs.Common.{arith, sym, ap, ap₂, ◌∙◌, subst, true≢fa
 use Rattle.std.proofs.lemmas.Bool.Decides.{nat_tests}
 use Rattle.std.proofs.lemmas.List.{length-replicate}
 use native.Mathlib.Decide.{dec_le}
-use Rattle.chew_spec_disk.specs.Disk.{DiskState, IsDisk, Stays, last_moment}
+use Rattle.chew_spec_disk.specs.Disk.{DiskState, IsDisk, last_moment}
 use Rattle.chew_spec_disk.specs.Sync.{IsSettled}
-use Rattle.chew_spec_disk.proofs.Moments.{later-chain, later-same}
+use Rattle.chew_spec_disk.proofs.Moments.{later-chain}
 use Rattle.chew_spec_slots.specs.Fits.{Fits}
 use Rattle.chew_spec_slots.specs.Keep.{Keep, acknowledged_state, found_keep, keep_for, left_state}
 use Rattle.chew_spec_slots.specs.Reading.{is_surely_shut, slot_reading}
@@ -20,30 +20,6 @@ use Rattle.chew_slots.specs.declared.fault.SlotFault.{SlotFault}
 use Rattle.chew_slots.specs.declared.fault.SlotFault.TheVariants.{NoMemory}
 use Rattle.chew_slots.specs.declared.recovery.Found.{Found}
 use Rattle.chew_slots.specs.declared.slot_read.SlotRead.{SlotRead}
-
--- no call
-pub untouched-self : (disk : DiskState) → IsUntouched disk disk
-untouched-self disk = record {
-  later = later-same disk;
-  reads = λ slot. refl;
-  outcomes = λ slot list. (λ h. h, λ h. h);
-  between = λ under moment slot list low high. absurd (omega arith);
-}
-
--- one call that reads
-pub untouched-once : (before after : DiskState) → Stays before after → IsDisk after → IsUntouched before after
-untouched-once before after stays is = record {
-  later = stays.passes.later;
-  reads = stays.reads;
-  outcomes = stays.outcomes;
-  between = λ under moment slot list low high.
-      let rises = stays.passes.rises in
-      let here : moment ≡ after.moment = omega arith in
-      let now = is.this_moment under slot list in (
-        λ h. (stays.outcomes slot list).0 (now.0 (subst (λ (m : ℕ). after.might_have_left m slot list) here h)),
-        λ h. subst (λ (m : ℕ). after.might_have_left m slot list) (sym here) (now.1 ((stays.outcomes slot list).1 h)),
-      );
-}
 
 -- calls after calls
 pub untouched-chain : (first middle last : DiskState) → IsUntouched first middle → IsUntouched middle last → IsUntouched first last

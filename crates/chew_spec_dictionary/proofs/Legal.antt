@@ -1,7 +1,7 @@
 -- Which entries are legal.
 use Rattle.std.proofs.Common.{◌≡◌, ◌↔◌, ℕ, zero, suc, ◌≤◌, ◌<◌, Bool, true, false, not, ◌&&◌, List, [], ◌∷◌, ◌++◌, length, get_or, cond, refl, ap, sym, ◌∙◌, subst, nat_le, ◌==◌, eqb, if◌then◌else◌, Option, Some, None, Contains, arith}
 use Rattle.std.specs.Option.{option_map_or}
-use Rattle.std.proofs.lemmas.Bool.{and_from, and_parts, cond-false, cond-true, eq-eqb, eqb-true, le-leb, leb-true, ne_eqb, not-true, true≢false}
+use Rattle.std.proofs.lemmas.Bool.{and_from, and_parts, cond-false, cond-true, eq-eqb, eqb-true, le-leb, leb-true, ne_eqb, true≢false}
 use Rattle.chew_spec_syllable.specs.Row.{greatest_freq, is_pair}
 use Rattle.chew_spec_dictionary.specs.Hidden.{can_hide}
 use Rattle.chew_spec_dictionary.specs.Call.{Call, Look, Learn, Forget, Hide, Freeze, Install, is_proper}
@@ -20,10 +20,6 @@ user-waits p (Forget key phrase) k = refl
 user-waits p (Hide key phrase) k = refl
 user-waits p Freeze k = refl
 user-waits p (Install number) k = absurd (true≢false k)
-
--- so a user's call may be made at any point
-pub user-installs : (p : Point) (call : Call) → is_user_call call ≡ true → installs_waiting p call ≡ true
-user-installs p call u = user-waits p call (not-true (is_keepers call) (and_parts (not (is_keepers call)) (is_proper call) u).0)
 
 -- which calls are proper
 pub learn-proper : (key phrase : List ℕ) (orig peak : ℕ) → (is_proper (Learn key phrase orig peak) ≡ true) ↔ ((is_pair key phrase ≡ true) × (orig ≤ peak) × (peak ≤ 99_999_999))

@@ -1,47 +1,17 @@
 -- What each call of a disk in memory does to what it tells.
-use Rattle.std.specs.Prelude.{◌≡◌, ◌≢◌, ◌⊎◌, ℕ, zero, suc, ◌<◌, ◌≤◌, Bool, true, false, not, ◌==◌, List, [], ◌∷◌, length, cond, Result, Ok, Err, is_err, refl}
+use Rattle.std.specs.Prelude.{◌≡◌, ◌≢◌, ◌⊎◌, ℕ, zero, suc, ◌<◌, Bool, true, false, not, List, [], length, cond, Result, Ok, Err, is_err, refl}
 use Rattle.std.proofs.Common.{arith, eqb, true≢false, sym, ap, ◌∙◌, inl, inr, ⊎_elim}
-use Rattle.std.proofs.lemmas.Bool.{false≢true}
 use Rattle.std.proofs.lemmas.Bool.Decides.{nat_tests}
-use Rattle.chew_spec_outside.specs.Faults.{HasCause, risen}
-use Rattle.chew_spec_outside.specs.Memory.{counted}
-use Rattle.chew_spec_disk.specs.Disk.{Stays, last_moment}
-use Rattle.chew_spec_disk.specs.Memory.{Event, Written, SlotHistory, MemoryDisk, MemoryWrites, IsSound, IsUpTo, after_sync, after_write, called, disk_state, fails_next, history_of, with_event, with_history, with_sync}
-use Rattle.chew_spec_disk.specs.Sync.{Syncs}
+use Rattle.chew_spec_outside.specs.Faults.{risen}
+use Rattle.chew_spec_disk.specs.Disk.{Stays}
+use Rattle.chew_spec_disk.specs.Memory.{Written, SlotHistory, MemoryDisk, MemoryWrites, IsSound, after_write, called, disk_state, fails_next, history_of, with_event, with_history}
 use Rattle.chew_spec_disk.specs.Write.{WriteAnswers, Writes, Wrote}
-use Rattle.chew_spec_disk.proofs.Histories.{failed-after, stays-after, syncs-after, wrote-after}
-
--- the events of each slot are in time where those of 0 and 1 are
-pub in_time-by : (disk : MemoryDisk) → IsUpTo disk.calls disk.zero.events → IsUpTo disk.calls disk.one.events → (slot : ℕ) → IsUpTo disk.calls (history_of disk slot).events
-in_time-by disk first second slot = by (slot == 0) (slot == 1)
-  where
-    by : (a b : Bool) → IsUpTo disk.calls (cond a disk.zero (cond b disk.one (record { first = []; events = [] }))).events
-    by true b = first
-    by false true = second
-    by false false = tt
-
--- and stay so
-pub up_to-later : (early late : ℕ) (events : List Event) → early ≤ late → IsUpTo early events → IsUpTo late events
-up_to-later early late [] fits up_to = tt
-up_to-later early late (event ∷ older) fits up_to = omega (arith, fits, up_to)
+use Rattle.chew_spec_disk.proofs.Histories.{failed-after, stays-after, wrote-after}
 
 -- a call that changes no slot
 pub stays-called : (before after : MemoryDisk) (failed refused : Bool) → IsSound before → after ≡ called failed refused before → Stays (disk_state before) (disk_state after)
 stays-called before after failed refused is same =
     stays-after before after is (ap (λ (d : MemoryDisk). d.calls) same) (λ slot. ap (λ (d : MemoryDisk). history_of d slot) same)
-
--- a count after a call that may have failed
-pub cause-counted : (before after : ℕ) (failed : Bool) → before ≤ last_moment → after ≡ counted failed before → HasCause before after failed
-cause-counted before after true fits is = record {
-  never_falls = omega arith;
-  rose = λ failed. omega arith;
-  same = λ worked. absurd (true≢false worked);
-}
-cause-counted before after false fits is = record {
-  never_falls = omega arith;
-  rose = λ failed. absurd (false≢true failed);
-  same = λ worked. is;
-}
 
 -- there are two slots
 pub two-slots : (P : ℕ → Type 0) → P 0 → P 1 → (slot : ℕ) → slot < 2 → P slot
@@ -116,18 +86,6 @@ failed-memory before after slot at bytes failed low is fault writes =
     inl (failed-after before after slot at bytes is e.rises (own-event before after slot at bytes false e) e.others))
     (λ refused. inr (stays-called before after true true is refused.1))
     writes
-
--- a sync that was done, and one that failed
-pub synced-memory : (before after : MemoryDisk) (slot : ℕ) → slot < 2 → IsSound before → fails_next before ≡ false → after ≡ after_sync before slot → Syncs slot (disk_state before) (disk_state after)
-synced-memory before after slot low is worked synced =
-    let history = with_sync (history_of before slot) (risen before.calls) in
-    let e = extends before after false false slot history low (synced ∙ ap (λ b. cond b (called true false before) (with_history (called false false before) slot history)) worked) in
-    syncs-after before after slot is e.rises (e.own ∙ ap (λ m. with_sync (history_of before slot) m) (sym e.rises)) e.others
-
-pub unsynced-memory : (before after : MemoryDisk) (slot : ℕ) → IsSound before → fails_next before ≡ true → after ≡ after_sync before slot → Stays (disk_state before) (disk_state after)
-unsynced-memory before after slot is fault synced =
-    stays-called before after true false is
-    (synced ∙ ap (λ b. cond b (called true false before) (with_history (called false false before) slot (with_sync (history_of before slot) (risen before.calls)))) fault)
 
 -- what a write's answer says
 pub write-answers : {T E : Type 0} (before after : MemoryDisk) (slot at : ℕ) (bytes : List ℕ) (answer : Result T E) → slot < 2 → IsSound before

@@ -29,10 +29,6 @@ pub record CanHold (rows : List Row) : Type 0 where
   pub few : length rows ≤ 250_000
   pub times : (row : Row) → In row rows → row.time < 2 ^ 64
 
--- the parts of the image, from the nodes on and from the rows on
-abbrev pub behind_nodes : List Row → List ℕ
-behind_nodes rows = flat_map row_bytes (fields_from 0 rows) ++ text_of rows
-
 -- how many nodes and rows there are
 length-nodes_from : (rows : List Row) (child row : ℕ) (keys : List (List ℕ)) → length (nodes_from rows child row keys) ≡ length keys
 length-nodes_from rows child row [] = refl

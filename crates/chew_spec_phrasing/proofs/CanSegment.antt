@@ -13,12 +13,11 @@ use Rattle.chew_spec_dictionary.specs.Look.{Interval}
 use Rattle.chew_spec_phrasing.specs.Best.{IsBest, best_of, best_pieces}
 use Rattle.chew_spec_phrasing.specs.CanSegment.{CanSegment, cell_at, interval_of}
 use Rattle.chew_spec_phrasing.specs.Combined.{is_hit_at}
-use Rattle.chew_spec_phrasing.specs.Search.{Improves, IsCompletion}
 use Rattle.chew_spec_phrasing.specs.Segmentation.{GivesOwn, IsSegmentation}
 use Rattle.chew_spec_phrasing.specs.Usable.{Choice, Piece, choice_end, agrees, first_row, is_exactly, is_unbroken, keeps_choices, lies_in, meets, phrase_len, piece_at, piece_by_rows, piece_of_choice, piece_of_hit}
 use Rattle.chew_spec_phrasing.proofs.Best.{IsBest-from_best_of, no_segmentation-from_best_of}
 use Rattle.chew_spec_phrasing.proofs.Membership.{Contains-nil, Contains-cases}
-use Rattle.chew_spec_phrasing.proofs.Search.{IsSegmentation-none, IsSegmentation-cons, best_of-from_Improves}
+use Rattle.chew_spec_phrasing.proofs.Search.{IsSegmentation-none, IsSegmentation-cons}
 use Rattle.chew_spec_phrasing.proofs.Usable.{GivesOwn-piece_at}
 
 found_step : {X : Type 0} (p : X → Bool) (z : X) (zs : List X) (x : X) (b : Bool) → p z ≡ b → Contains (z ∷ zs) x → p x ≡ true → (Contains zs x → (y : X) × (find p zs ≡ Some y)) → (y : X) × (cond b (Some z) (find p zs) ≡ Some y)
@@ -221,10 +220,3 @@ IsBest-from_CanSegment rows breaks choices n can =
     let best = best_of-from_CanSegment rows breaks choices n can in
     subst (IsBest (piece_at rows breaks choices) n) (sym (ap (λ o. unwrap_or o []) best.1))
     (IsBest-from_best_of rows breaks choices n best.0 (GivesOwn-piece_at rows breaks choices can.rows_have_lengths) best.1)
-
--- a search from the start of such a run holds the best one in the end
-pub held-from_Improves : (rows : List Hit) (breaks : List ℕ) (choices : List Choice) (n : ℕ) (held : Option (List Piece)) → CanSegment rows choices n → Improves (IsCompletion (piece_at rows breaks choices) [] 0 n) None held → held ≡ Some (best_pieces rows breaks choices n)
-held-from_Improves rows breaks choices n held can h =
-    let best = best_of-from_CanSegment rows breaks choices n can in
-    let same = best_of-from_Improves rows breaks choices n held (GivesOwn-piece_at rows breaks choices can.rows_have_lengths) h in
-    sym same ∙ (best.1 ∙ ap Some (sym (ap (λ o. unwrap_or o []) best.1)))

@@ -23,16 +23,6 @@ pub record IsCompletion (usable : Interval → Option Piece) (before : List Piec
   pub follows : IsSegmentation usable start n rest
   pub joined : pieces ≡ before ++ rest
 
--- and the piece from start on has at most so many syllables
-pub record IsCompletionUpTo (usable : Interval → Option Piece) (before : List Piece) (start n most : ℕ) (pieces : List Piece) : Type 0 where
-  pub len : ℕ
-  pub piece : Piece
-  pub from_one : 1 ≤ len
-  pub within : len ≤ n
-  pub at_most : len ≤ most
-  pub is_usable : usable (record { start = start; len = len }) ≡ Some piece
-  pub completes : IsCompletion usable (before ++ (piece ∷ [])) (start + len) (n - len) pieces
-
 -- something is held, and the pieces don't exceed it
 pub record IsHeldAgainst (held : Option (List Piece)) (pieces : List Piece) : Type 0 where
   pub top : List Piece

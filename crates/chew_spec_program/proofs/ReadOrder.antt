@@ -33,9 +33,6 @@ run-named (Some (Check from)) e = refl
 run-named (Some (Dump from)) e = refl
 run-named (Some (Make number)) e = refl
 
-pub named-run : (words : List (List ℕ)) → is_run_command words ≡ false → names_settings words ≡ false
-named-run words e = run-named (command_of words) e
-
 module _ (words : List (List ℕ)) (settings system script : Watched) (disk : Kept) (opened : Result Inputs Refusal) (opens : Opens words settings system script disk opened) where
   -- where the system is not read, nothing behind it is
   behind-system : reads_system words opens.settings_text ≡ false → IsUnread system × IsUnread script × IsUncalled disk

@@ -42,12 +42,3 @@ only-old keep disk checkpoint fits none is first second left left′ =
     (λ old. old ∙ ap Recovered is)
     (λ next. absurd (subst (λ o. IsSomeAnd o (λ c. RecoversTo c first second)) none next))
     (fits-recovers keep disk fits first second left left′)
-
--- where one state is left, it or the old one is recovered
-pub old-or-this : (keep : Keep) (disk : DiskState) (checkpoint this : Checkpoint) → Fits keep disk → left_state keep disk ≡ Some this → acknowledged_state keep disk ≡ checkpoint
-    → NowLeaves disk (λ first second. RecoversTo checkpoint first second ⊎ RecoversTo this first second)
-old-or-this keep disk checkpoint this fits some is first second left left′ =
-    ⊎_elim
-    (λ old. inl (old ∙ ap Recovered is))
-    (λ next. inr (subst (λ o. IsSomeAnd o (λ c. RecoversTo c first second)) some next))
-    (fits-recovers keep disk fits first second left left′)

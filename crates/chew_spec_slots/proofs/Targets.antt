@@ -1,5 +1,5 @@
 -- How the lists read that a crash may leave of a target.
-use Rattle.std.specs.Prelude.{◌≡◌, ◌≢◌, ◌⊎◌, ℕ, ◌<◌, Bool, true, false, ◌&&◌, ◌==◌, nat_le, List, [], ◌∷◌, length, drop, slice_index, cond, refl}
+use Rattle.std.specs.Prelude.{◌≡◌, ◌≢◌, ◌⊎◌, ℕ, Bool, true, false, ◌&&◌, ◌==◌, nat_le, List, [], ◌∷◌, length, drop, slice_index, cond, refl}
 use Rattle.std.proofs.Common.{arith, eqb, inl, inr, ap, ap₂, ⊎_elim}
 use Rattle.std.proofs.lemmas.Bool.{cases_eq}
 use Rattle.std.proofs.lemmas.Bool.Decides.{nat_tests}
@@ -19,14 +19,6 @@ pub shut-gate : (list : List ℕ) → slice_index list 0 ≢ open_gate → slot_
 shut-gate list apart =
     ap (λ b. cond b (as_open (saved_in list)) Shut)
     (and-false (nat_le 33 (length list)) (slice_index list 0 == open_gate) (apart-test (slice_index list 0) open_gate apart))
-
--- and so does a slot without all its fields
-pub shut-short : (list : List ℕ) → length list < 33 → slot_reading list ≡ Shut
-shut-short list short =
-    ap (λ b. cond (b && (slice_index list 0 == open_gate)) (as_open (saved_in list)) Shut) (too_short (length list) short)
-  where
-    too_short : (n : ℕ) → n < 33 → nat_le 33 n ≡ false
-    too_short n h = grind (arith, nat_tests)
 
 -- any gate before the same bytes is shut, or the open one
 pub any-gate : (reads list : List ℕ) → drop 1 list ≡ drop 1 reads → (slot_reading list ≡ Shut) ⊎ (slot_reading list ≡ slot_reading (opened reads))

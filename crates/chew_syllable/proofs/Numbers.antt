@@ -11,7 +11,7 @@ use Rattle.std.proofs.lemmas.Slice.Eq.{starts_is}
 use Rattle.std.proofs.lemmas.Str.{encode_same}
 use Rattle.std.proofs.Math.Seq.{drop-append_seam, take-length}
 use Rattle.std.proofs.lemmas.List.{length-drop}
-use Rattle.chew_spec_syllable.specs.SyllableText.{mark_number, mark_text, after_mark, initial_marks, medial_marks, final_marks, tone_marks, front_parts, after_parts}
+use Rattle.chew_spec_syllable.specs.SyllableText.{mark_number, mark_text, after_mark, initial_marks, medial_marks, final_marks, tone_marks, front_parts}
 use Rattle.chew_spec_syllable.specs.Syllable.{Parts}
 use Rattle.chew_syllable.specs.Front.{Reads, block_byte, tone_byte}
 
@@ -209,9 +209,3 @@ front_is text on_medial on_final on_tone behind initial medial final tone a b c 
     let to_tone = ap (after_mark final_marks) to_final ∙ c.rest in
     same_parts initial medial final tone _ _ _ _ (sym a.number) (sym (ap (mark_number medial_marks) a.rest ∙ b.number))
     (sym (ap (mark_number final_marks) to_final ∙ c.number)) (sym (ap (mark_number tone_marks) to_tone ∙ d.number))
-
-pub behind_is : (text on_medial on_final on_tone behind : List ℕ) (initial medial final tone : ℕ)
-    → Reads initial_marks text initial on_medial → Reads medial_marks on_medial medial on_final → Reads final_marks on_final final on_tone → Reads tone_marks on_tone tone behind
-    → behind ≡ after_parts text
-behind_is text on_medial on_final on_tone behind initial medial final tone a b c d =
-    sym (ap (after_mark tone_marks) (ap (after_mark final_marks) (ap (after_mark medial_marks) a.rest ∙ b.rest) ∙ c.rest) ∙ d.rest)

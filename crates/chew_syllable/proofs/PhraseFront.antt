@@ -199,18 +199,6 @@ none_allowed text rest c zero valid e refused = refl
 none_allowed text rest c (suc n) valid e refused =
     ap (allowed_bytes (suc n)) (chars_past_char text rest c valid e) ∙ cond-false (is_allowed c) (len_utf8 c + allowed_bytes n (chars rest)) 0 refused
 
--- an empty text
-pub empty_allowed : (text : List ℕ) (n : ℕ) → length text ≡ 0 → allowed_bytes n (chars text) ≡ 0
-unfolding chars
-empty_allowed [] zero e = refl
-empty_allowed [] (suc n) e = refl
-empty_allowed (b ∷ text) n e = absurd (omega arith)
-
--- one less to go
-pub step_allowed : (limit n : ℕ) (characters : List ℕ) → (limit ≡ 0 → ⊥) → n ≡ limit - 1 → allowed_bytes limit characters ≡ allowed_bytes (suc n) characters
-step_allowed zero n characters some e = absurd (some refl)
-step_allowed (suc m) n characters some e = let same : m ≡ n = omega arith in ap (λ k. allowed_bytes (suc k) characters) same
-
 -- the valid front of a text with a fault
 pub front_before_fault : (text front : List ℕ) (n m : ℕ) → IsValidUpTo text n → m ≡ n → front ≡ take m text → IsValidFront text front
 front_before_fault text front n m fault e f =

@@ -1,12 +1,8 @@
 -- Texts that begin with what stood there before.
 use Rattle.std.proofs.Common.{◌≡◌, ℕ, ◌≤◌, List, ◌++◌, length, take, ap, sym, ◌∙◌, arith}
 use Rattle.std.proofs.Math.Seq.{take-append_seam}
-use Rattle.std.proofs.lemmas.List.{length-append, take-take, take_all}
+use Rattle.std.proofs.lemmas.List.{length-append, take-take}
 use Rattle.chew_text.specs.Fronts.{IsFront}
-
--- what was not changed
-pub front_same : (front text : List ℕ) → text ≡ front → IsFront front text
-front_same front text e = ap (take (length front)) e ∙ take_all (length front) front (omega arith)
 
 -- what was appended to
 pub front_next : (front text more : List ℕ) → text ≡ front ++ more → IsFront front text

@@ -1,5 +1,5 @@
 -- What digits write, from left to right.
-use Rattle.std.proofs.Common.{◌≡◌, ℕ, zero, suc, ◌+◌, ◌-◌, ◌*◌, ◌≤◌, ◌<◌, true, false, List, [], ◌∷◌, length, get_or, take, fold, Some, None, refl, arith}
+use Rattle.std.proofs.Common.{◌≡◌, ℕ, zero, suc, ◌+◌, ◌-◌, ◌*◌, ◌≤◌, ◌<◌, true, false, List, [], ◌∷◌, length, get_or, take, fold, Some, None, arith}
 use Rattle.std.specs.List.{list_all}
 use Rattle.std.specs.Char.{is_ascii_digit}
 use Rattle.std.proofs.lemmas.Bool.{cond-true, cond-false, and_from, and_left, and_right, lt-ltb, le-leb, lt-leb}
@@ -23,11 +23,6 @@ front_value i digits = from 0 i digits
     from value zero digits = value_grows value digits
     from value (suc i) [] = omega arith
     from value (suc i) (digit ∷ digits) = from (next_value value digit) i digits
-
--- no digits are no number
-pub no_digits : (most : ℕ) (text : List ℕ) → length text ≡ 0 → number_up_to most text ≡ None
-no_digits most [] h = refl
-no_digits most (digit ∷ text) h = absurd (omega arith)
 
 -- a byte that is no digit
 pub other_byte : (most : ℕ) (text : List ℕ) (i d : ℕ) → i < length text → is_ascii_digit (get_or text i d) ≡ false → number_up_to most text ≡ None

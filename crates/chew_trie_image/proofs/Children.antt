@@ -41,16 +41,6 @@ once_front bytes counts seen n fault after read past key (Ok later) same =
     ap (λ (k : ℕ). checked (eqb k counts.rows) 8 (fault_behind bytes counts seen fault read (due_under key n ++ later))) l
     ∙ ap (λ (next : Option ℕ). checked (eqb (seen + n + length later) counts.rows) 8 next) (same later)
 
--- a node with a fault ends the reading
-pub node_fails : (bytes : List ℕ) (counts : Counts) (nodes : NodesRead) (fault : Option ImageFault) (read : RowsRead) (due : Due) (later : List Due) (left place : ℕ)
-    → node_fault counts (suc (length due.key)) due.first nodes (node_at bytes nodes.place) ≡ Some place
-    → fault_ahead bytes counts nodes fault read (due ∷ later) (suc left) ≡ Some place
-node_fails bytes counts nodes fault read due later left place some =
-    let node = node_at bytes nodes.place in
-    let rest = with_front (due_under (due.key ++ node.code ∷ []) node.rows)
-    (read_nodes counts (later ++ due_under (due.key ++ node.code ∷ []) node.children) (past_node nodes node) (nodes_at bytes (nodes.place + 16) left)) in
-    ap (λ (o : Option ℕ). fault_once_read bytes counts nodes.next_row fault read (unless_fault o rest)) some
-
 -- a node without one is passed, and its rows are read behind those before them
 pub node_passes : (bytes : List ℕ) (counts : Counts) (nodes : NodesRead) (fault after : Option ImageFault) (read past : RowsRead) (due : Due) (later : List Due) (left : ℕ)
     → node_fault counts (suc (length due.key)) due.first nodes (node_at bytes nodes.place) ≡ None

@@ -7,7 +7,7 @@ use Rattle.std.proofs.lemmas.Bool.{cond-false, cond-true}
 use Rattle.std.proofs.lemmas.List.{drop_more}
 use Rattle.std.proofs.lemmas.Option.{get_or_from_slice_get, same_Some}
 use Rattle.chew_spec_syllable.specs.Row.{Row}
-use Rattle.chew_trie_read.specs.Left.{rows_between}
+use Rattle.chew_trie_read.specs.Rest.{rows_between}
 
 -- the rows from a place on, by the first
 pub rows_more : (rows : List Row) (place end : ℕ) (row : Row) → place < end → end ≤ length rows → slice_get rows place ≡ Some row
@@ -39,9 +39,6 @@ freq_later rows place end row phrase all h within at e same =
     sym (ap (λ (o : Option Row). option_map_or (λ (r : Row). r.freq) o 0) (cond-false (bytes_eq row.phrase phrase) (Some row) (find (λ (r : Row). bytes_eq r.phrase phrase) rest) e))
     ∙ ap (freq_in phrase) (sym (rows_more rows place end row h within at)) ∙ same
 
-pub freq_nowhere : (rows : List Row) (place end : ℕ) (phrase : List ℕ) (all : ℕ) → end ≤ place → freq_in phrase (rows_between rows place end) ≡ all → 0 ≡ all
-freq_nowhere rows place end phrase all h same = ap (freq_in phrase) (sym (rows_none rows place end h)) ∙ same
-
 -- the greatest frequency, from one on
 abbrev pub peak_from : ℕ → List Row → ℕ
 peak_from peak rows = fold max peak (map (λ (row : Row). row.freq) rows)
@@ -50,9 +47,6 @@ pub peak_more : (rows : List Row) (place end : ℕ) (row : Row) (peak next all :
     → peak_from peak (rows_between rows place end) ≡ all → peak_from next (rows_between rows (place + 1) end) ≡ all
 peak_more rows place end row peak next all h within at e same =
     ap (λ (k : ℕ). peak_from k (rows_between rows (place + 1) end)) e ∙ ap (peak_from peak) (sym (rows_more rows place end row h within at)) ∙ same
-
-pub peak_end : (rows : List Row) (place end : ℕ) (peak all : ℕ) → end ≤ place → peak_from peak (rows_between rows place end) ≡ all → peak ≡ all
-peak_end rows place end peak all h same = ap (peak_from peak) (sym (rows_none rows place end h)) ∙ same
 
 -- all rows from a place on, by the first
 pub each_more : (rows : List Row) (place : ℕ) (row : Row) → place < length rows → slice_get rows place ≡ Some row → drop place rows ≡ row ∷ drop (place + 1) rows

@@ -166,10 +166,3 @@ row_some rows place row each h at =
     let there = subst (λ (r : Row). In r rows) (get_or_from_slice_get rows place row row at) (in_get rows place row h) in
     let some = (row_in row rows each there).some in
     omega arith
-
--- nothing begins before node 0
-pub first_children : (rows : List Row) → first_child_at rows 0 ≡ 1
-first_children rows = refl
-
-pub first_rows : (rows : List Row) → first_row_at rows 0 ≡ 0
-first_rows rows = refl

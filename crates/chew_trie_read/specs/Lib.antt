@@ -1,4 +1,4 @@
-pub mod Left
+pub mod Rest
 pub mod Search
 pub mod Start
 pub mod Stored

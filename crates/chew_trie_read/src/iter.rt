@@ -1,6 +1,6 @@
 ghost use Rattle.std.specs.Iterator.{YieldsFirstBy, item_count};
 ghost use Rattle.std.specs.Prelude.{◌≡◌, ◌≤◌, length, map};
-ghost use Rattle.chew_trie_read.specs.Left.{Lent, lent, rows_between};
+ghost use Rattle.chew_trie_read.specs.Rest.{Lent, lent, rows_between};
 
 use crate::image::Image;
 use crate::keys::key_of;
@@ -18,7 +18,7 @@ pub struct RowsIter<'a> {
 
 impl<'a> Model for RowsIter<'a> {
     ghost use Rattle.std.specs.Prelude.{◌≤◌, List, length, map};
-    ghost use Rattle.chew_trie_read.specs.Left.{Lent, lent, rows_between};
+    ghost use Rattle.chew_trie_read.specs.Rest.{Lent, lent, rows_between};
 
     ghost Value = { List Lent };
 

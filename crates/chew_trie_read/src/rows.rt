@@ -6,7 +6,7 @@ ghost use Rattle.chew_spec_syllable.specs.Row.{is_row};
 ghost use Rattle.chew_spec_dictionary.specs.Dictionary.{is_map};
 ghost use Rattle.chew_spec_dictionary.specs.System.{greatest, rows_under};
 ghost use Rattle.chew_spec_image.specs.NodeKeys.{node_keys};
-ghost use Rattle.chew_trie_read.specs.Left.{rows_between};
+ghost use Rattle.chew_trie_read.specs.Rest.{rows_between};
 ghost use Rattle.chew_trie_read.specs.Search.{key_at};
 
 use crate::find::find;

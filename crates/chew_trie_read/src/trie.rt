@@ -6,7 +6,7 @@ ghost use Rattle.chew_spec_dictionary.specs.System.{rows_of};
 ghost use Rattle.chew_spec_image.specs.Image.{image};
 ghost use Rattle.chew_spec_image.specs.NodeKeys.{node_keys};
 ghost use Rattle.chew_spec_image.specs.Reading.{image_place, rows_in};
-ghost use Rattle.chew_trie_read.specs.Left.{lent};
+ghost use Rattle.chew_trie_read.specs.Rest.{lent};
 
 use crate::image::{Image, are_an_image};
 use crate::iter::{EachIter, RowsIter};

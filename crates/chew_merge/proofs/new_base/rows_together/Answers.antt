@@ -2,7 +2,7 @@
 use Rattle.std.proofs.Common.{List, ◌++◌, ap, ◌∙◌, arith}
 use Rattle.chew_spec_syllable.specs.Row.{Row}
 use Rattle.chew_spec_layers.proofs.Overlays.{overlay_map}
-use Rattle.chew_merge.specs.Left.{rows_together}
+use Rattle.chew_merge.specs.Rest.{rows_together}
 use Rattle.chew_merge.proofs.Merging.{has_room, no_more, one_more}
 use Rattle.chew_merge.proofs.new_base.rows_together.Goals as goal
 

@@ -1,5 +1,5 @@
 -- Recovery reads what the crash left.
-use Rattle.chew_run_samples.proofs.Left.{found_left}
+use Rattle.chew_run_samples.proofs.CrashFinds.{found_left}
 use Rattle.chew_run_samples.proofs.maps.found_after.Goals as goal
 
 pub returns-in-Ok : goal.returns-in-Ok

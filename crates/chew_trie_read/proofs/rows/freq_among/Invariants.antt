@@ -1,6 +1,6 @@
 -- The rows so far don't have the phrase.
 use Rattle.std.proofs.Common.{◌≡◌}
-use Rattle.chew_trie_read.specs.Left.{rows_between}
+use Rattle.chew_trie_read.specs.Rest.{rows_between}
 use Rattle.chew_trie_read.proofs.Among.{freq_in}
 use Rattle.chew_trie_read.proofs.rows.freq_among.Given as goal
 

@@ -3,7 +3,7 @@ use Rattle.std.proofs.Common.{◌≡◌, ℕ, List, length, flat_map, ap, ◌∙
 use Rattle.std.proofs.lemmas.List.{take_all}
 use Rattle.chew_spec_dictionary.specs.Look.{hits_of, intervals}
 use Rattle.chew_plain.specs.Look.{hits_at}
-use Rattle.chew_layers.specs.Held.{rows_held}
+use Rattle.chew_layers.specs.Contents.{rows_held}
 use Rattle.chew_layers.proofs.held.Held.look.Goals as goal
 
 pub returns : goal.returns

@@ -2,7 +2,7 @@
 use Rattle.std.proofs.Common.{◌≡◌, length, take, flat_map}
 use Rattle.chew_spec_dictionary.specs.Look.{intervals}
 use Rattle.chew_plain.specs.Look.{hits_at}
-use Rattle.chew_layers.specs.Held.{rows_held}
+use Rattle.chew_layers.specs.Contents.{rows_held}
 use Rattle.chew_layers.proofs.held.Held.look.Given as goal
 
 abbrev pub invariant-loop-at : goal.invariant-loop-at

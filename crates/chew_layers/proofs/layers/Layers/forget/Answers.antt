@@ -3,7 +3,7 @@ use Rattle.std.proofs.Common.{sym}
 use Rattle.chew_spec_dictionary.proofs.Learning.{forgot_where, not_there_where}
 use Rattle.chew_spec_layers.specs.Layers.{dictionary_in}
 use Rattle.chew_plain.specs.Call.{call_of, entry_of}
-use Rattle.chew_layers.specs.Held.{row_said}
+use Rattle.chew_layers.specs.Contents.{row_said}
 use Rattle.chew_layers.proofs.Calls.{noted_more, noted_not_there}
 use Rattle.chew_layers.proofs.layers.Layers.forget.Goals as goal
 

@@ -7,7 +7,7 @@ use Rattle.chew_spec_dictionary.specs.Hidden.{is_hidden, shown_rows}
 use Rattle.chew_spec_dictionary.specs.System.{peak_of}
 use Rattle.chew_spec_layers.specs.Layers.{Layers, dictionary_in}
 use Rattle.chew_plain.proofs.Outcomes.{held_next}
-use Rattle.chew_layers.specs.Held.{row_said}
+use Rattle.chew_layers.specs.Contents.{row_said}
 use Rattle.chew_layers.proofs.layers.Layers.held_freq.Goals as goal
 
 pub returns-then-is_hidden-clause-value : goal.returns-then-is_hidden-clause-value

@@ -5,7 +5,7 @@ use Rattle.chew_spec_dictionary.specs.Dictionary.{Outcome, hide}
 use Rattle.chew_spec_layers.specs.Layers.{dictionary_in}
 use Rattle.chew_plain.specs.Call.{call_of, entry_of, reply_of}
 use Rattle.chew_plain.proofs.Outcomes.{hide_full, hide_held, hide_hidden, hide_new}
-use Rattle.chew_layers.specs.Held.{row_said}
+use Rattle.chew_layers.specs.Contents.{row_said}
 use Rattle.chew_layers.proofs.Calls.{count_of_held, count_of_new, noted_hide, noted_more, ok_reply}
 use Rattle.chew_layers.proofs.layers.Layers.hide.Goals as goal
 

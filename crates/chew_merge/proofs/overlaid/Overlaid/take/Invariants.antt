@@ -1,6 +1,6 @@
 -- What is left together stays the same, while rows and marks get fewer.
 use Rattle.std.proofs.Common.{◌≡◌, ◌+◌, length}
-use Rattle.chew_merge.specs.Left.{rows_together}
+use Rattle.chew_merge.specs.Rest.{rows_together}
 use Rattle.chew_merge.proofs.overlaid.Overlaid.take.Given as goal
 
 abbrev pub invariant-merging : goal.invariant-merging

@@ -1,7 +1,7 @@
 -- The first of the rows that are left.
 use Rattle.std.proofs.Common.{map, sym, ap, ◌∙◌}
 use Rattle.chew_spec_syllable.specs.Row.{Row}
-use Rattle.chew_trie_read.specs.Left.{lent}
+use Rattle.chew_trie_read.specs.Rest.{lent}
 use Rattle.chew_trie_read.proofs.Among.{rows_more}
 use Rattle.chew_trie_read.proofs.iter.RowsIterIterator.next.Goals as goal
 

@@ -4,7 +4,7 @@ use Rattle.chew_spec_syllable.specs.Row.{Row}
 use Rattle.chew_spec_dictionary.specs.Dictionary.{is_map}
 use Rattle.chew_spec_dictionary.specs.System.{rows_under}
 use Rattle.chew_spec_dictionary.proofs.Rows.{rows_of_map}
-use Rattle.chew_trie_read.specs.Left.{lent}
+use Rattle.chew_trie_read.specs.Rest.{lent}
 use Rattle.chew_trie_read.proofs.trie.Trie.rows.Goals as goal
 
 pub returns : goal.returns

@@ -4,7 +4,7 @@ use Rattle.chew_spec_syllable.specs.Row.{Row}
 use Rattle.chew_spec_dictionary.specs.Dictionary.{is_map}
 use Rattle.chew_spec_dictionary.specs.System.{rows_under}
 use Rattle.chew_spec_dictionary.proofs.Rows.{map_has_no_pair_twice, rows_of_map}
-use Rattle.chew_trie_read.specs.Left.{rows_between}
+use Rattle.chew_trie_read.specs.Rest.{rows_between}
 use Rattle.chew_trie_read.proofs.trie.TrieLexicon.places.Goals as goal
 
 pub returns-clause-value : goal.returns-clause-value

@@ -8,7 +8,7 @@ use Rattle.chew_spec_slots.specs.Recovery.{recovered}
 use Rattle.chew_slots.specs.Answers.{Answers, AreTold}
 use Rattle.chew_slots.specs.declared.fault.SlotFault.{SlotFault}
 use Rattle.chew_slots.specs.declared.recovery.Found.{Found}
-use Rattle.chew_run_samples.specs.Left.{IsLeft}
+use Rattle.chew_run_samples.specs.CrashFinds.{IsLeft}
 
 -- the slots of a new disk are read as they are
 pub found_left : (pick : ℕ) (disk image : MemoryDisk) (zero one : List ℕ) (found : Result Found SlotFault)

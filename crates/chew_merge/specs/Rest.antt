@@ -9,16 +9,16 @@ use Rattle.chew_spec_layers.specs.Mark.{Marked, is_layer, is_proper_mark}
 use Rattle.chew_spec_layers.specs.Overlay.{overlay}
 
 -- rows of a map, and marks over it
-pub record Left : Type 0 where
+pub record Rest : Type 0 where
   pub rows : List Row
   pub marks : List Marked
 
 -- the rows of both together
-abbrev pub rows_together : Left → List Row
+abbrev pub rows_together : Rest → List Row
 rows_together left = overlay left.rows left.marks
 
 -- the rows are a map, and the marks are a layer; each row and each mark is in range
-pub record IsSound (left : Left) : Type 0 where
+pub record IsSound (left : Rest) : Type 0 where
   pub map : is_map left.rows ≡ true
   pub rows : list_all is_row left.rows ≡ true
   pub layer : is_layer left.marks ≡ true
@@ -40,7 +40,7 @@ first_cmp [] marked = Greater
 first_cmp (row ∷ rows) marked = pair_cmp row.key row.phrase marked.key marked.phrase
 
 -- a step left out a row or a mark, and gave the first row of both together, or left the rows as they were
-pub record IsStep (old : Left) (given : Option Row) (new : Left) : Type 0 where
+pub record IsStep (old : Rest) (given : Option Row) (new : Rest) : Type 0 where
   pub some : IfSome given (λ row. rows_together old ≡ row ∷ rows_together new)
   pub none : IfNone given (rows_together new ≡ rows_together old)
   pub fewer : length new.rows + length new.marks < length old.rows + length old.marks
