@@ -6,7 +6,7 @@ use Rattle.chew_spec_dictionary.specs.History.{Entry}
 use Rattle.std.specs.declared.option.Option.{Option as Opt}
 use Rattle.atomic_table.specs.Table.{Me}
 use Rattle.chew_spec_cell.specs.Pass.{Cell, Pass}
-use Rattle.chew_spec_cell.specs.Seen.{HasSeen}
+use Rattle.chew_spec_cell.specs.Sight.{HasSeen}
 use Rattle.chew_spec_cell.proofs.Sights.{seen-over}
 use Rattle.chew_cell.specs.View.{Sight, View, sight_of, both, idle}
 use Rattle.chew_cell.specs.Rule.{IsSightOf}

@@ -5,7 +5,7 @@ use Rattle.atomic_table.specs.Seated.{TableId}
 use Rattle.chew_spec_dictionary.specs.Dictionary.{Dictionary}
 use Rattle.chew_spec_dictionary.specs.History.{Entry}
 use Rattle.chew_spec_cell.specs.Pass.{Cell, Pass}
-use Rattle.chew_spec_cell.specs.Seen.{HasSeen}
+use Rattle.chew_spec_cell.specs.Sight.{HasSeen}
 use Rattle.chew_cell.specs.View.{Sight, View, sight_of, idle, waiting, in_turn, spent_view, ticket_of}
 use Rattle.chew_cell.specs.Rule.{IsSightOf}
 

@@ -2,7 +2,7 @@
 use Rattle.std.specs.Prelude.{ℕ, Bool, true, false, List, [], ◌∷◌, ◌++◌, Option, Some, None, unwrap_or}
 use Rattle.chew_spec_dictionary.specs.Dictionary.{Dictionary}
 use Rattle.chew_spec_dictionary.specs.History.{Entry}
-use Rattle.chew_spec_cell.specs.Seen.{longer}
+use Rattle.chew_spec_cell.specs.Sight.{longer}
 
 -- a list of entries that was seen, and the numbers that have seen it
 pub record Sight : Type 0 where

@@ -1,6 +1,6 @@
 ghost use Rattle.std.specs.Prelude.{◌≡◌, ◌+◌, ◌<◌, ◌≤◌, [], ◌∷◌, length, map, All, Contains, IfOk, IfSome};
 ghost use Rattle.chew_spec_cell.specs.Pass.{new_passes};
-ghost use Rattle.chew_spec_cell.specs.Seen.{HasSeen, IsTurn, longer};
+ghost use Rattle.chew_spec_cell.specs.Sight.{HasSeen, IsTurn, longer};
 ghost use Rattle.chew_cell.specs.View.{idle, nothing_seen};
 ghost use Rattle.chew_cell.specs.Seats.{IsGathered, IsIdle};
 

@@ -17,7 +17,7 @@ use Rattle.chew_spec_rounds.specs.InStep.{IsInStep}
 use Rattle.chew_spec_rounds.specs.Round as spec
 use Rattle.chew_spec_rounds.specs.Round.{IsRound, KeepersCalls, saved_number}
 use Rattle.chew_spec_rounds.specs.Seq.{last_seq}
-use Rattle.chew_spec_rounds.specs.Written.{WritesCheckpoint}
+use Rattle.chew_spec_rounds.specs.WriteSteps.{WritesCheckpoint}
 use Rattle.chew_spec_rounds.proofs.Fronts.{none-some}
 use Rattle.chew_spec_rounds.proofs.InStep.{in-step-grown, round-holds, unwritten-round}
 use Rattle.chew_spec_rounds.proofs.Writing.{failed-in-step, failed-round, saved-in-step, saved-round}

@@ -4,8 +4,8 @@ use Rattle.std.proofs.Common.{append_assoc, ap, ap₂, sym, ◌∙◌, subst}
 use Rattle.chew_spec_dictionary.specs.Call.{Call, Reply}
 use Rattle.chew_spec_dictionary.specs.History.{Entry, calls_of, own}
 use Rattle.chew_spec_cell.specs.Pass.{Pass}
-use Rattle.chew_spec_cell.specs.Seen.{HasSeen}
-use Rattle.chew_spec_shared.specs.Asked.{Asked}
+use Rattle.chew_spec_cell.specs.Sight.{HasSeen}
+use Rattle.chew_spec_shared.specs.SharedCalls.{Asked}
 use Rattle.chew_spec_rounds.proofs.Writing.{calls-joined}
 
 -- a history that grew, and the keeper's calls in what was added

@@ -10,7 +10,7 @@ use Rattle.chew_spec_slots.specs.Slot.{Checkpoint, Saved}
 use Rattle.chew_spec_slots.proofs.Chances.{fits-chance}
 use Rattle.chew_spec_slots.proofs.Fitting.{fits-recovers}
 use Rattle.chew_spec_slots.specs.Steps.{FillsBody, LiftsGate, ShutsGate}
-use Rattle.chew_spec_rounds.specs.Written.{WritesCheckpoint}
+use Rattle.chew_spec_rounds.specs.WriteSteps.{WritesCheckpoint}
 use Rattle.chew_checkpoint.specs.declared.fault.WriteFault.{WriteFault}
 use Rattle.chew_checkpoint.specs.declared.fault.WriteFault.TheVariants.{SeqSpent}
 use Rattle.chew_spec_rounds.proofs.Steps.{filling-fails, lifting-fails, steps-done}

@@ -6,11 +6,11 @@ ghost use Rattle.chew_spec_dictionary.specs.History.{Entry, calls_of, is_legal, 
 ghost use Rattle.chew_spec_layers.specs.Overlay.{overlay};
 ghost use Rattle.chew_spec_slots.specs.Fits.{Fits};
 ghost use Rattle.chew_spec_slots.specs.Keep.{is_shut};
-ghost use Rattle.chew_spec_shared.specs.Asked.{IsOf};
+ghost use Rattle.chew_spec_shared.specs.SharedCalls.{IsOf};
 ghost use Rattle.chew_spec_rounds.specs.InStep.{IsInStep};
 ghost use Rattle.chew_spec_rounds.specs.Round.{IsRound, KeepersCalls};
 ghost use Rattle.chew_spec_rounds.specs.Seq.{CountsSeq, last_seq};
-ghost use Rattle.chew_spec_rounds.specs.Written.{WritesCheckpoint};
+ghost use Rattle.chew_spec_rounds.specs.WriteSteps.{WritesCheckpoint};
 ghost use Rattle.chew_slots.specs.Calls.{after_calls};
 ghost use Rattle.chew_checkpoint.specs.Answers.{FaultStep, kept_after, round_failed, round_of, write_calls, write_failed, write_of, write_refused};
 ghost use Rattle.chew_checkpoint.specs.declared.fault.WriteFault.TheVariants as write;

@@ -4,7 +4,7 @@ ghost use Rattle.chew_spec_disk.specs.Disk.{IsDisk, Later};
 ghost use Rattle.chew_spec_slots.specs.Fits.{Fits};
 ghost use Rattle.chew_spec_slots.specs.Keep.{advanced, is_shut};
 ghost use Rattle.chew_spec_slots.specs.Slot.{IsSaved, Saved, body as slot_body};
-ghost use Rattle.chew_spec_rounds.specs.Written.{WritesCheckpoint};
+ghost use Rattle.chew_spec_rounds.specs.WriteSteps.{WritesCheckpoint};
 ghost use Rattle.chew_slots.specs.Calls.{after_calls};
 ghost use Rattle.chew_checkpoint.specs.Answers.{IsStep, kept_at, steps_up_to};
 

@@ -4,7 +4,7 @@ ghost use Rattle.chew_spec_disk.specs.Disk.{IsDisk, Later};
 ghost use Rattle.chew_spec_slots.specs.Fits.{Fits};
 ghost use Rattle.chew_spec_slots.specs.Keep.{is_shut};
 ghost use Rattle.chew_spec_rounds.specs.Seq.{last_seq};
-ghost use Rattle.chew_spec_rounds.specs.Written.{WritesCheckpoint};
+ghost use Rattle.chew_spec_rounds.specs.WriteSteps.{WritesCheckpoint};
 ghost use Rattle.chew_slots.specs.Calls.{after_calls};
 ghost use Rattle.chew_checkpoint.specs.Answers.{FaultStep, kept_after, write_calls, write_failed, write_refused};
 ghost use Rattle.chew_checkpoint.specs.declared.fault.WriteFault.TheVariants as write;

@@ -6,7 +6,7 @@ use Rattle.chew_spec_text.specs.DictionaryText.{system_limit}
 use Rattle.chew_spec_program.specs.Answer.{Gives, answer_to}
 use Rattle.chew_spec_program.specs.Reading.{IsRead, Watched, watched}
 use Rattle.chew_spec_program.specs.Refusal.{Refusal}
-use Rattle.chew_commands.specs.Made.{GivesOrNoMemory, itself}
+use Rattle.chew_commands.specs.Outcome.{GivesOrNoMemory, itself}
 use Rattle.chew_commands.specs.Refusals.{IsOrNoMemory}
 
 -- a text was read

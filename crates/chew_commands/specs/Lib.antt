@@ -1,3 +1,3 @@
 pub mod Commands
-pub mod Made
+pub mod Outcome
 pub mod Refusals

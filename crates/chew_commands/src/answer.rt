@@ -2,7 +2,7 @@ ghost use Rattle.std.specs.Prelude.{is_err};
 ghost use Rattle.chew_spec_program.specs.Answer.{Tells};
 ghost use Rattle.chew_spec_program.specs.Reading.{watched};
 ghost use Rattle.chew_spec_program.specs.Writing.{Writes, sunk};
-ghost use Rattle.chew_commands.specs.Made.{GivesOrNoMemory, itself};
+ghost use Rattle.chew_commands.specs.Outcome.{GivesOrNoMemory, itself};
 ghost use Rattle.chew_commands.specs.Refusals.{outcome_of};
 
 use crate::refusal::Refusal;

@@ -6,7 +6,7 @@ ghost use Rattle.chew_spec_outside.specs.Faults.{Rose};
 ghost use Rattle.chew_spec_program.specs.Build.{IsBuild, image_of_text};
 ghost use Rattle.chew_spec_program.specs.Reading.{watched};
 ghost use Rattle.chew_spec_program.specs.Writing.{sunk};
-ghost use Rattle.chew_commands.specs.Made.{GivesOrNoMemory};
+ghost use Rattle.chew_commands.specs.Outcome.{GivesOrNoMemory};
 ghost use Rattle.chew_commands.specs.Refusals.{IsOrNoMemory};
 ghost use Rattle.chew_commands.specs.Refusals.{outcome_of};
 

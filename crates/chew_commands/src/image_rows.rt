@@ -5,7 +5,7 @@ ghost use Rattle.chew_spec_text.specs.RowText.{rows_text};
 ghost use Rattle.chew_spec_program.specs.ImageRows.{IsCheck, IsDump, check_of, counts_line, dump_of, rows_of_image};
 ghost use Rattle.chew_spec_program.specs.Reading.{watched};
 ghost use Rattle.chew_spec_program.specs.Writing.{sunk};
-ghost use Rattle.chew_commands.specs.Made.{GivesOrNoMemory};
+ghost use Rattle.chew_commands.specs.Outcome.{GivesOrNoMemory};
 ghost use Rattle.chew_commands.specs.Refusals.{IsOrNoMemory};
 ghost use Rattle.chew_commands.specs.Refusals.{outcome_of};
 

@@ -4,7 +4,7 @@ use Rattle.std.proofs.Common.{refl, ap, sym, ◌∙◌, arith, append_assoc}
 use Rattle.std.proofs.lemmas.List.{append-nil, drop_all}
 use Rattle.chew_spec_phrasing.specs.Usable.{Piece}
 use Rattle.chew_spec_preedit.specs.Cell.{Cell, Sound, Symbol}
-use Rattle.chew_spec_preedit.specs.Shown.{character_at, characters_from}
+use Rattle.chew_spec_preedit.specs.ShownText.{character_at, characters_from}
 
 -- the first cell, and those behind it
 characters-cons : (pieces : List Piece) (place : ℕ) (cell : Cell) (cells : List Cell)

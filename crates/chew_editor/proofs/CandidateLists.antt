@@ -8,7 +8,7 @@ use Rattle.std.proofs.lemmas.List.Elements.{filter-append}
 use Rattle.chew_spec_syllable.specs.Row.{Row}
 use Rattle.chew_spec_dictionary.specs.Call.{Hit}
 use Rattle.chew_spec_dictionary.specs.Look.{Interval, codes_at}
-use Rattle.chew_spec_phrasing.specs.Combined.{combined, combined_hits, found_rows, is_hit_at, shown_hit}
+use Rattle.chew_spec_phrasing.specs.CombinedRows.{combined, combined_hits, found_rows, is_hit_at, shown_hit}
 use Rattle.chew_spec_phrasing.proofs.Intervals.{filter-flat_map, flat_map-range_one, flat_map_none}
 use Rattle.chew_spec_preedit.specs.Window.{CandidateList, candidate_lists, candidates_of, has_candidate, is_whole_at, lengths_at}
 use Rattle.chew_spec_preedit.proofs.Kept.{list_all-filter, list_all-true}

@@ -11,11 +11,11 @@ use Rattle.chew_spec_syllable.specs.Row.{Row, is_pair}
 use Rattle.chew_spec_dictionary.specs.Call.{Call}
 use Rattle.chew_spec_phrasing.specs.Usable.{Piece, phrase_len}
 use Rattle.chew_spec_preedit.specs.Cell.{Cell, is_cell, is_sound}
-use Rattle.chew_spec_preedit.specs.Shown.{characters_of}
+use Rattle.chew_spec_preedit.specs.ShownText.{characters_of}
 use Rattle.chew_spec_preedit.proofs.IsBuffer.{IsBuffer-from}
 use Rattle.chew_spec_editor.specs.Editor.{Editor}
 use Rattle.chew_spec_editor.specs.Invariant.{covers, is_editor, is_piece}
-use Rattle.chew_spec_editor.specs.Learnt.{code_in, key_at, learns}
+use Rattle.chew_spec_editor.specs.Learning.{code_in, key_at, learns}
 use Rattle.chew_spec_editor.proofs.Characters.{HaveCharacters-at, cells-show, length-characters}
 use Rattle.chew_spec_editor.proofs.Steady.{IsEditor-from}
 use Rattle.chew_spec_editor.proofs.Texts.{AreSounds, is_pair-at}

@@ -7,7 +7,7 @@ use Rattle.chew_spec_syllable.specs.Row.{Row}
 use Rattle.chew_spec_dictionary.specs.Call.{Hit}
 use Rattle.chew_spec_dictionary.specs.Look.{Interval}
 use Rattle.chew_spec_phrasing.specs.Best.{best_pieces}
-use Rattle.chew_spec_phrasing.specs.Combined.{combined_hits}
+use Rattle.chew_spec_phrasing.specs.CombinedRows.{combined_hits}
 use Rattle.chew_spec_phrasing.specs.Segmentation.{GivesOwn, lengths, pieces_from}
 use Rattle.chew_spec_phrasing.specs.Usable.{Piece, piece_at}
 use Rattle.chew_spec_phrasing.proofs.CanSegment.{IsBest-from_CanSegment}

@@ -8,7 +8,7 @@ use Rattle.std.proofs.lemmas.Option.{none-some, same_Some}
 use Rattle.chew_spec_syllable.specs.Row.{Row, is_row}
 use Rattle.chew_spec_dictionary.specs.Call.{Reply}
 use Rattle.chew_spec_phrasing.specs.CanSegment.{CanSegment}
-use Rattle.chew_spec_phrasing.specs.Combined.{combined_hits}
+use Rattle.chew_spec_phrasing.specs.CombinedRows.{combined_hits}
 use Rattle.chew_spec_preedit.specs.Buffer.{Buffer}
 use Rattle.chew_spec_preedit.specs.Cell.{Cell, has_sound}
 use Rattle.chew_spec_preedit.specs.PlacedRun.{PlacedRun, choices_in, run_at, run_end, runs_of}

@@ -7,7 +7,7 @@ use Rattle.chew_spec_syllable.specs.Phrase.{is_phrase}
 use Rattle.chew_spec_phrasing.specs.Usable.{Piece, phrase_len}
 use Rattle.chew_spec_preedit.specs.Edit.{has_break}
 use Rattle.chew_spec_editor.specs.Invariant.{is_piece}
-use Rattle.chew_spec_editor.specs.Learnt.{Stretch, go_together, stretch_of, stretches, with_stretch}
+use Rattle.chew_spec_editor.specs.Learning.{Stretch, go_together, stretch_of, stretches, with_stretch}
 use Rattle.chew_spec_editor.proofs.Texts.{IsText, IsText-append, IsText-phrase}
 use Rattle.chew_editor.specs.Spans.{Span, longer, span_of, spans_from}
 

@@ -11,11 +11,11 @@ use Rattle.chew_spec_phrasing.specs.Usable.{Piece, phrase_len}
 use Rattle.chew_spec_phrasing.proofs.Intervals.{flat_map-map, flat_map_alike}
 use Rattle.chew_spec_phrasing.proofs.Membership.{Contains-cases, Contains-head, Contains-nil, Contains-tail}
 use Rattle.chew_spec_preedit.specs.Cell.{Cell, has_sound, is_cell}
-use Rattle.chew_spec_preedit.specs.Shown.{characters_of}
+use Rattle.chew_spec_preedit.specs.ShownText.{characters_of}
 use Rattle.chew_spec_preedit.proofs.Kept.{list_all-join}
 use Rattle.chew_spec_preedit.proofs.Parts.{list_all-drop, list_all-take}
 use Rattle.chew_spec_editor.specs.Invariant.{covers, is_piece, piece_places}
-use Rattle.chew_spec_editor.specs.Learnt.{Stretch, code_in, go_together, key_at, learn_call, learns, learns_of, part_of, phrase_limit, stretch_of, stretches, with_stretch}
+use Rattle.chew_spec_editor.specs.Learning.{Stretch, code_in, go_together, key_at, learn_call, learns, learns_of, part_of, phrase_limit, stretch_of, stretches, with_stretch}
 use Rattle.chew_spec_editor.proofs.Leading.{piece-some}
 use Rattle.chew_spec_editor.proofs.ShownChoices.{shown-of_piece}
 use Rattle.chew_spec_editor.proofs.ShownRows.{passes}

@@ -3,7 +3,7 @@ use Rattle.std.specs.Prelude.{◌≡◌, ℕ, ◌<◌, ◌≤◌, List, length, 
 use Rattle.chew_spec_syllable.specs.Row.{Row}
 use Rattle.chew_spec_dictionary.specs.Call.{Hit, Reply}
 use Rattle.chew_spec_phrasing.specs.CanSegment.{CanSegment}
-use Rattle.chew_spec_phrasing.specs.Combined.{combined_hits}
+use Rattle.chew_spec_phrasing.specs.CombinedRows.{combined_hits}
 use Rattle.chew_spec_preedit.specs.Buffer.{Buffer}
 use Rattle.chew_spec_preedit.specs.PlacedRun.{PlacedRun, choices_in, run_end}
 use Rattle.chew_spec_editor.specs.Finish.{hits_in}

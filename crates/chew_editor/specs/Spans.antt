@@ -6,7 +6,7 @@ use Rattle.chew_spec_dictionary.specs.Call.{Call}
 use Rattle.chew_spec_phrasing.specs.Usable.{Piece, phrase_len}
 use Rattle.chew_spec_preedit.specs.Cell.{Cell}
 use Rattle.chew_spec_preedit.specs.Edit.{has_break}
-use Rattle.chew_spec_editor.specs.Learnt.{code_in, learn_call, phrase_limit}
+use Rattle.chew_spec_editor.specs.Learning.{code_in, learn_call, phrase_limit}
 
 -- from a place up to another, and whether it is made of pieces of one syllable
 pub record Span : Type 0 where

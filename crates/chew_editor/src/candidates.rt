@@ -1,5 +1,5 @@
 ghost use Rattle.std.specs.Prelude.{◌≡◌, ◌+◌, ◌-◌, ◌++◌, ◌<◌, ◌≤◌, ◌&&◌, IfOk, OnOk, filter, length, min, nat_lt};
-ghost use Rattle.chew_spec_phrasing.specs.Combined.{combined_hits, is_hit_at};
+ghost use Rattle.chew_spec_phrasing.specs.CombinedRows.{combined_hits, is_hit_at};
 ghost use Rattle.chew_spec_preedit.specs.PlacedRun.{breaks_in, run_end};
 ghost use Rattle.chew_spec_preedit.specs.Window.{candidate_lists, is_whole_at};
 ghost use Rattle.chew_spec_editor.specs.Finish.{window_of_lists};

@@ -1,6 +1,6 @@
 ghost use Rattle.std.specs.Prelude.{◌≡◌, ◌∷◌, ◌++◌, [], IfNone, IfOk, IfSome, OnOk, chars, find, map, option_to_list, slice_get};
 ghost use Rattle.std.specs.Option.{option_copied};
-ghost use Rattle.chew_spec_preedit.specs.Shown.{character_at, characters_from, characters_of, has_cell};
+ghost use Rattle.chew_spec_preedit.specs.ShownText.{character_at, characters_from, characters_of, has_cell};
 ghost use Rattle.chew_preedit.specs.CellItem.{cell_of};
 
 use chew_phrasing::Piece;

@@ -2,7 +2,7 @@ ghost use Rattle.std.specs.Prelude.{◌≡◌, [], IfErr, IfOk, IsTrue, if◌the
 ghost use Rattle.chew_spec_text.specs.Line.{Quiet};
 ghost use Rattle.chew_spec_editor.specs.Editor.{shown_text};
 ghost use Rattle.chew_spec_editor.specs.Invariant.{is_editor};
-ghost use Rattle.chew_spec_editor.specs.Learnt.{learns};
+ghost use Rattle.chew_spec_editor.specs.Learning.{learns};
 ghost use Rattle.chew_spec_editor.specs.Press.{press_enter};
 ghost use Rattle.chew_plain.specs.Call.{call_of};
 ghost use Rattle.chew_script.specs.Notes.{note_of};

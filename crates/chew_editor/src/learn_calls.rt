@@ -2,7 +2,7 @@ ghost use Rattle.std.specs.Prelude.{◌≡◌, ◌≤◌, IfOk, IsTrue, chars, e
 ghost use Rattle.chew_spec_syllable.specs.Key.{is_key};
 ghost use Rattle.chew_spec_syllable.specs.Phrase.{is_phrase};
 ghost use Rattle.chew_spec_syllable.specs.Row.{is_pair};
-ghost use Rattle.chew_spec_editor.specs.Learnt.{code_in, learn_call};
+ghost use Rattle.chew_spec_editor.specs.Learning.{code_in, learn_call};
 ghost use Rattle.chew_plain.specs.Call.{call_of};
 ghost use Rattle.chew_preedit.specs.CellItem.{cell_of};
 ghost use Rattle.chew_editor.specs.Spans.{learn_of};
@@ -47,7 +47,7 @@ pub(crate) fn pair_of(
 }
 
 /// A phrase is learnt with the frequency that the system has for it, and its greatest for the key.
-#[tactic(auto, unfolding(chew_spec_editor::specs::Learnt::learn_call))]
+#[tactic(auto, unfolding(chew_spec_editor::specs::Learning::learn_call))]
 pub(crate) fn learn_call<L: Lexicon>(system: &L, key: Key, phrase: Phrase) -> Call
     ensures { call_of result ≡ learn_call (L.rows system.now) key phrase }
 {

@@ -3,7 +3,7 @@ ghost use Rattle.std.specs.List.{list_all};
 ghost use Rattle.chew_spec_syllable.specs.Row.{is_pair};
 ghost use Rattle.chew_spec_preedit.specs.Cell.{is_sound};
 ghost use Rattle.chew_spec_editor.specs.Invariant.{covers, is_editor, is_piece};
-ghost use Rattle.chew_spec_editor.specs.Learnt.{code_in, key_at, learns};
+ghost use Rattle.chew_spec_editor.specs.Learning.{code_in, key_at, learns};
 ghost use Rattle.chew_spec_editor.specs.Press.{leading_cells, learn_shown, text_at};
 ghost use Rattle.chew_plain.specs.Call.{call_of};
 ghost use Rattle.chew_preedit.specs.CellItem.{cell_of};

@@ -1,6 +1,6 @@
 ghost use Rattle.std.specs.Prelude.{◌≡◌, IfErr, IfOk, IsTrue};
 ghost use Rattle.chew_spec_text.specs.KeyStroke.{is_key_stroke};
-ghost use Rattle.chew_spec_editor.specs.Committed.{buffer_left};
+ghost use Rattle.chew_spec_editor.specs.Commits.{buffer_left};
 ghost use Rattle.chew_spec_editor.specs.Invariant.{HasSingles};
 ghost use Rattle.chew_spec_editor.specs.Keys.{press};
 ghost use Rattle.chew_script.specs.Keys.{key_of};

@@ -3,7 +3,7 @@ use Rattle.std.proofs.Common.{◌≡◌, ℕ, ◌+◌, ◌-◌, ◌≤◌, ◌^�
 use Rattle.chew_spec_syllable.specs.Row.{Row}
 use Rattle.chew_spec_dictionary.specs.Call.{Call, Look, Learn, Forget, Hide, Freeze, Install, Full, NotThere, Reply}
 use Rattle.chew_spec_dictionary.specs.Dictionary.{Dictionary, Outcome, forget, hid, hide, is_map, learn, put_pair, time_of_learn}
-use Rattle.chew_spec_dictionary.specs.Hidden.{hidden_time}
+use Rattle.chew_spec_dictionary.specs.HiddenPairs.{hidden_time}
 use Rattle.chew_spec_dictionary.specs.History.{Entry, answer}
 use Rattle.chew_spec_dictionary.specs.System.{row_of}
 use Rattle.chew_spec_dictionary.proofs.Counts.{count_forgot, count_put, missed}
@@ -14,7 +14,7 @@ use Rattle.chew_spec_layers.specs.Layers.{Layers, Waiting, dictionary_in, frozen
 use Rattle.chew_spec_layers.specs.Mark.{Marked, Live, Grave}
 use Rattle.chew_spec_layers.specs.Overlay.{overlay}
 use Rattle.chew_spec_layers.specs.Standing.{StandForMap}
-use Rattle.chew_spec_layers.specs.Touched.{tells_change}
+use Rattle.chew_spec_layers.specs.Touches.{tells_change}
 use Rattle.chew_spec_layers.proofs.Standings.{changed_stands, dictionary_held, now, start_stands}
 use Rattle.chew_spec_layers.proofs.Steps.{forget_stands, freeze_again_stands, freeze_stands, full_stands, hide_same_stands, install_stands, learn_stands, look_stands, not_there_stands}
 use Rattle.chew_spec_layers.proofs.Touches.{about_itself}

@@ -5,7 +5,7 @@ use Rattle.std.proofs.lemmas.Bool.{cond_both}
 use Rattle.chew_spec_syllable.specs.Row.{Row}
 use Rattle.chew_spec_dictionary.specs.Call.{Hit}
 use Rattle.chew_spec_dictionary.specs.Dictionary.{is_map}
-use Rattle.chew_spec_dictionary.specs.Hidden.{is_hidden, shown_rows}
+use Rattle.chew_spec_dictionary.specs.HiddenPairs.{is_hidden, shown_rows}
 use Rattle.chew_spec_dictionary.specs.Look.{Interval, codes_at, hit_of, shown_cmp, shown_hit_cmp}
 use Rattle.chew_spec_dictionary.specs.Order.{put, in_order}
 use Rattle.chew_spec_dictionary.specs.System.{greatest, peak_of, rows_under}
@@ -14,7 +14,7 @@ use Rattle.chew_spec_layers.specs.Mark.{Marked, is_layer}
 use Rattle.chew_spec_layers.specs.Overlay.{overlay}
 use Rattle.chew_plain.specs.Look.{hits_at}
 use Rattle.chew_plain.proofs.Outcomes.{shown_under}
-use Rattle.chew_layers.specs.Shown.{greatest_of_shown, shown_hits}
+use Rattle.chew_layers.specs.GreatestFrequency.{greatest_of_shown, shown_hits}
 use Rattle.chew_layers.specs.Visible.{visible_rows}
 use Rattle.chew_layers.proofs.Visible.{visible_shown}
 

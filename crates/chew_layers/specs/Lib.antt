@@ -2,5 +2,5 @@ pub mod Contents
 pub mod Inside
 pub mod Need
 pub mod OneMore
-pub mod Shown
+pub mod GreatestFrequency
 pub mod Visible

@@ -1,13 +1,13 @@
 ghost use Rattle.std.specs.Prelude.{◌≡◌, ◌+◌, ◌≤◌, ℕ, List, IsTrue, IfOk, IfSome, length, option_map};
 ghost use Rattle.chew_spec_dictionary.specs.Dictionary.{is_map};
-ghost use Rattle.chew_spec_dictionary.specs.Hidden.{shown_rows};
+ghost use Rattle.chew_spec_dictionary.specs.HiddenPairs.{shown_rows};
 ghost use Rattle.chew_spec_dictionary.specs.Look.{codes_at, hits_of};
 ghost use Rattle.chew_spec_dictionary.specs.System.{peak_of, row_of};
 ghost use Rattle.chew_spec_layers.specs.Mark.{is_in_range, is_layer, row_of_mark};
 ghost use Rattle.chew_buffer.specs.Marks.{meaning};
 ghost use Rattle.chew_plain.specs.Look.{hits_at};
 ghost use Rattle.chew_layers.specs.Contents.{row_said, rows_held};
-ghost use Rattle.chew_layers.specs.Shown.{greatest_of_shown};
+ghost use Rattle.chew_layers.specs.GreatestFrequency.{greatest_of_shown};
 
 use crate::seen::visible_hits;
 use chew_buffer::{Buffer, Mark};

@@ -1,6 +1,6 @@
 ghost use Rattle.std.specs.Prelude.{◌≡◌, ◌+◌, ◌≤◌, ◌++◌, ◌∷◌, [], ℕ, List, IsTrue, IfOk, OnOk, is_some, length, map};
 ghost use Rattle.chew_spec_syllable.specs.Row.{is_pair};
-ghost use Rattle.chew_spec_dictionary.specs.Hidden.{is_hidden};
+ghost use Rattle.chew_spec_dictionary.specs.HiddenPairs.{is_hidden};
 ghost use Rattle.chew_spec_dictionary.specs.Look.{hit_of};
 ghost use Rattle.chew_spec_layers.specs.Mark.{is_proper_mark, mark_of};
 ghost use Rattle.chew_spec_layers.specs.Overlay.{live_rows, unmarked_rows};

@@ -20,7 +20,7 @@ use Rattle.chew_spec_editor.specs.Settings.{Settings}
 use Rattle.chew_spec_session.specs.Context.{Basis}
 use Rattle.chew_spec_program.specs.Make.{has_commit, typed_over}
 use Rattle.chew_spec_program.proofs.Typing.{commits_more, one_more}
-use Rattle.chew_make.specs.Counted.{Counted, basis_in, counted, key_counted, nothing_learnt, tally, tally_of}
+use Rattle.chew_make.specs.Counts.{Counted, basis_in, counted, key_counted, nothing_learnt, tally, tally_of}
 use Rattle.chew_make.specs.declared.typist.Typist.{Typist}
 
 -- a key that was answered at once

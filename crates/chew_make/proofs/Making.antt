@@ -17,7 +17,7 @@ use Rattle.chew_spec_program.specs.Refusal as spec
 use Rattle.chew_spec_program.specs.Writing.{Sunk}
 use Rattle.chew_syllable.specs.declared.memory.NoMemory.{NoMemory}
 use Rattle.chew_make.specs.Answers.{answer_of}
-use Rattle.chew_make.specs.Counted.{Counted, basis_in, counted}
+use Rattle.chew_make.specs.Counts.{Counted, basis_in, counted}
 
 -- the generated script is what was read
 pub script_given : (number : ℕ) (text : List ℕ) (script : Script) → script_of text ≡ Ok script → text ≡ generated number

@@ -4,7 +4,7 @@ ghost use Rattle.chew_spec_text.specs.KeyStroke.{is_key_stroke};
 ghost use Rattle.chew_spec_editor.specs.Invariant.{is_settings};
 ghost use Rattle.chew_spec_program.specs.Make.{typed_over};
 ghost use Rattle.chew_script.specs.Keys.{keys_of};
-ghost use Rattle.chew_make.specs.Counted.{basis_in, counted, tally_of};
+ghost use Rattle.chew_make.specs.Counts.{basis_in, counted, tally_of};
 
 use crate::typist::Typist;
 use chew_plain::RowMap;

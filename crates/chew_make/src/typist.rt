@@ -10,7 +10,7 @@ ghost use Rattle.chew_spec_editor.specs.Keys.{press};
 ghost use Rattle.chew_spec_editor.specs.Pending.{calls_of};
 ghost use Rattle.chew_spec_program.specs.Make.{has_commit};
 ghost use Rattle.chew_script.specs.Keys.{key_of};
-ghost use Rattle.chew_make.specs.Counted.{key_counted, nothing_learnt, tally_of};
+ghost use Rattle.chew_make.specs.Counts.{key_counted, nothing_learnt, tally_of};
 
 use crate::asking::{replies_to, with_calls};
 use crate::summary::{STEPS, Summary};

@@ -9,7 +9,7 @@ use Rattle.chew_spec_dictionary.specs.Call.{Hit}
 use Rattle.chew_spec_dictionary.specs.Look.{Interval, codes_at}
 use Rattle.chew_spec_dictionary.specs.Order.{in_order}
 use Rattle.chew_spec_dictionary.specs.System.{rows_of}
-use Rattle.chew_spec_phrasing.specs.Combined.{combined, combined_hits, as_shown, found_rows, is_free_of, is_hit_at, is_shown, shown_hit, shown_hit_cmp, unsorted_hits}
+use Rattle.chew_spec_phrasing.specs.CombinedRows.{combined, combined_hits, as_shown, found_rows, is_free_of, is_hit_at, is_shown, shown_hit, shown_hit_cmp, unsorted_hits}
 use Rattle.chew_spec_dictionary.proofs.Order.{order_permutes, order_sorted}
 use Rattle.chew_spec_dictionary.proofs.Rows.{shown_hit_total}
 use Rattle.chew_spec_phrasing.proofs.Intervals.{flat_map-flat_map, flat_map-map}

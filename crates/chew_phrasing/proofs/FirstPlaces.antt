@@ -9,7 +9,7 @@ use Rattle.chew_spec_syllable.specs.Row.{Row}
 use Rattle.chew_spec_dictionary.specs.Call.{Hit}
 use Rattle.chew_spec_dictionary.specs.Look.{Interval, shown_cmp, shown_hit_cmp}
 use Rattle.chew_spec_dictionary.proofs.Rows.{shown_hit_total, shown_total}
-use Rattle.chew_spec_phrasing.specs.Combined.{shown_hit}
+use Rattle.chew_spec_phrasing.specs.CombinedRows.{shown_hit}
 use Rattle.chew_spec_phrasing.proofs.Greatest.{not_above_itself}
 use Rattle.chew_spec_phrasing.proofs.Membership.{Contains-filter, Contains-from_filter, Contains-from_map, Contains-map, Contains-single}
 use Rattle.chew_spec_dictionary.specs.System.{rows_of}

@@ -10,7 +10,7 @@ use Rattle.chew_spec_dictionary.specs.Order.{in_order}
 use Rattle.chew_spec_dictionary.specs.System.{rows_of}
 use Rattle.chew_spec_dictionary.proofs.Order.{NoneBelow, Rises, order_permutes, order_rises, order_sorted}
 use Rattle.chew_spec_dictionary.proofs.Rows.{shown_hit_total}
-use Rattle.chew_spec_phrasing.specs.Combined.{as_shown, combined, combined_hits, found_rows, is_free_of, is_hit_at, is_shown, shown_hit, unsorted_hits}
+use Rattle.chew_spec_phrasing.specs.CombinedRows.{as_shown, combined, combined_hits, found_rows, is_free_of, is_hit_at, is_shown, shown_hit, unsorted_hits}
 use Rattle.chew_spec_phrasing.specs.Usable.{Choice, first_row}
 use Rattle.chew_spec_phrasing.proofs.Greatest.{tied_from_both}
 use Rattle.chew_spec_phrasing.proofs.InOrder.{Contains-from_in_order, Contains-in_order}

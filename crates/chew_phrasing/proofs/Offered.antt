@@ -6,7 +6,7 @@ use Rattle.std.proofs.lemmas.List.Elements.{filter-append}
 use Rattle.chew_spec_syllable.specs.Row.{Row}
 use Rattle.chew_spec_dictionary.specs.Call.{Hit}
 use Rattle.chew_spec_dictionary.specs.Look.{Interval}
-use Rattle.chew_spec_phrasing.specs.Combined.{as_shown, is_free_of, is_shown, shown_hit}
+use Rattle.chew_spec_phrasing.specs.CombinedRows.{as_shown, is_free_of, is_shown, shown_hit}
 use Rattle.chew_phrasing.specs.Least.{IsLeast, comes_before, found_one, free_one}
 use Rattle.chew_phrasing.proofs.Leasts.{IsLeast-failed, IsLeast-later, IsLeast-same, IsLeast-taken}
 

@@ -6,7 +6,7 @@ use Rattle.std.proofs.lemmas.Bool.Decides.{nat_tests}
 use Rattle.std.proofs.lemmas.List.{get_or-set_same, get_or-set_other}
 use Rattle.chew_spec_dictionary.specs.Call.{Hit}
 use Rattle.chew_spec_dictionary.specs.Look.{Interval}
-use Rattle.chew_spec_phrasing.specs.Combined.{is_hit_at}
+use Rattle.chew_spec_phrasing.specs.CombinedRows.{is_hit_at}
 use Rattle.chew_spec_phrasing.specs.Usable.{Choice, Piece, is_exactly, is_unbroken, keeps_choices, phrase_len, piece_at, piece_of_choice, piece_of_hit}
 use Rattle.chew_spec_phrasing.proofs.Usable.{BothTrue-from}
 use Rattle.chew_phrasing.specs.Grid.{Grid, IsGrid, IsInside, in_slot, put_in, slot_of}

@@ -6,7 +6,7 @@ use Rattle.std.proofs.lemmas.Bool.{false≢true}
 use Rattle.std.proofs.lemmas.Option.{none-some}
 use Rattle.chew_spec_dictionary.specs.Call.{Hit}
 use Rattle.chew_spec_dictionary.specs.Look.{Interval}
-use Rattle.chew_spec_phrasing.specs.Combined.{is_hit_at}
+use Rattle.chew_spec_phrasing.specs.CombinedRows.{is_hit_at}
 use Rattle.chew_spec_phrasing.specs.Usable.{Choice, Piece, is_exactly, is_unbroken, keeps_choices, piece_at, piece_of_choice, piece_of_hit}
 use Rattle.chew_spec_phrasing.proofs.Usable.{BothTrue-from}
 

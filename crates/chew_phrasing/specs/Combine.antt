@@ -4,7 +4,7 @@ use Rattle.std.specs.List.{range_with_len}
 use Rattle.chew_spec_syllable.specs.Row.{Row}
 use Rattle.chew_spec_dictionary.specs.Call.{Hit}
 use Rattle.chew_spec_dictionary.specs.Look.{Interval, codes_at}
-use Rattle.chew_spec_phrasing.specs.Combined.{combined, found_rows, shown_hit}
+use Rattle.chew_spec_phrasing.specs.CombinedRows.{combined, found_rows, shown_hit}
 
 -- the interval of this start and length
 abbrev pub interval : (start len : ℕ) → Interval

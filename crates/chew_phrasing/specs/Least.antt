@@ -5,7 +5,7 @@ use Rattle.std.specs.Cmp.Lexicographic.{slice_cmp}
 use Rattle.std.specs.Ordering.{is_lt, nat_cmp, ordering_then}
 use Rattle.chew_spec_dictionary.specs.Call.{Hit}
 use Rattle.chew_spec_dictionary.specs.Look.{Interval, shown_hit_cmp}
-use Rattle.chew_spec_phrasing.specs.Combined.{as_shown, is_shown}
+use Rattle.chew_spec_phrasing.specs.CombinedRows.{as_shown, is_shown}
 use Rattle.chew_spec_phrasing.specs.Usable.{Choice, keeps_choices}
 
 -- it passes, and of the others that do none is shown before it

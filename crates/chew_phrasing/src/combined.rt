@@ -3,7 +3,7 @@ ghost use Rattle.std.specs.List.{list_any};
 ghost use Rattle.std.specs.Str.{bytes_eq};
 ghost use Rattle.chew_spec_syllable.specs.Phrase.{is_phrase};
 ghost use Rattle.chew_spec_dictionary.specs.System.{rows_of};
-ghost use Rattle.chew_spec_phrasing.specs.Combined.{as_shown, combined_hits, is_free_of, is_hit_at, is_shown, shown_hit};
+ghost use Rattle.chew_spec_phrasing.specs.CombinedRows.{as_shown, combined_hits, is_free_of, is_hit_at, is_shown, shown_hit};
 ghost use Rattle.chew_phrasing.specs.Combine.{combined_at, combined_from};
 
 use crate::interval::is_hit_at;

@@ -5,7 +5,7 @@ ghost use Rattle.chew_spec_syllable.specs.Phrase.{is_phrase};
 ghost use Rattle.chew_spec_dictionary.specs.Call as dictionary;
 ghost use Rattle.chew_spec_dictionary.specs.Look.{shown_hit_cmp};
 ghost use Rattle.chew_spec_dictionary.specs.System.{rows_of};
-ghost use Rattle.chew_spec_phrasing.specs.Combined.{as_shown, is_free_of, is_shown, shown_hit};
+ghost use Rattle.chew_spec_phrasing.specs.CombinedRows.{as_shown, is_free_of, is_shown, shown_hit};
 ghost use Rattle.chew_phrasing.specs.FirstPlace.{AreOfKey, IsKnown, rows_between};
 ghost use Rattle.chew_phrasing.specs.Least.{IsLeast, comes_before, found_one, free_one, keeps};
 

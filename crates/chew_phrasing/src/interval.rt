@@ -1,5 +1,5 @@
 ghost use Rattle.std.specs.Prelude.{◌≡◌};
-ghost use Rattle.chew_spec_phrasing.specs.Combined.{is_hit_at};
+ghost use Rattle.chew_spec_phrasing.specs.CombinedRows.{is_hit_at};
 
 use chew_plain::{Hit, Interval};
 

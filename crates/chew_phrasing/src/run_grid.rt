@@ -1,6 +1,6 @@
 ghost use Rattle.std.specs.Prelude.{◌≡◌, ◌≤◌, ◌<◌, ◌+◌, ◌++◌, ◌∷◌, [], All, IfOk, List, OnOk, length};
 ghost use Rattle.chew_spec_dictionary.specs.Look as look;
-ghost use Rattle.chew_spec_phrasing.specs.Combined.{combined_hits};
+ghost use Rattle.chew_spec_phrasing.specs.CombinedRows.{combined_hits};
 ghost use Rattle.chew_spec_phrasing.specs.Usable.{phrase_len, piece_at};
 ghost use Rattle.chew_phrasing.specs.FirstPlace.{IsKnown};
 ghost use Rattle.chew_phrasing.specs.Grid.{IsFilled, IsGrid, IsInside};

@@ -1,6 +1,6 @@
 ghost use Rattle.std.specs.Prelude.{◌≡◌, ◌<◌, IfOk, Some, length};
 ghost use Rattle.chew_spec_phrasing.specs.Best.{best_of, best_pieces};
-ghost use Rattle.chew_spec_phrasing.specs.Combined.{combined_hits};
+ghost use Rattle.chew_spec_phrasing.specs.CombinedRows.{combined_hits};
 ghost use Rattle.chew_spec_phrasing.specs.CanSegment.{CanSegment};
 
 use crate::grid::Grid;

@@ -4,7 +4,7 @@ use Rattle.std.proofs.lemmas.Bool.{cond-true, cond-false}
 use Rattle.chew_spec_syllable.specs.Row.{Row, is_pair_of}
 use Rattle.chew_spec_dictionary.specs.Frequency.{update}
 use Rattle.chew_spec_dictionary.specs.Call.{Full, NotThere, Forgot}
-use Rattle.chew_spec_dictionary.specs.Hidden.{is_hidden, shown_rows}
+use Rattle.chew_spec_dictionary.specs.HiddenPairs.{is_hidden, shown_rows}
 use Rattle.chew_spec_dictionary.specs.System.{is_under, peak_of, row_of, rows_under}
 use Rattle.chew_spec_dictionary.specs.Dictionary.{Dictionary, first_freq, forget, held_freq, hid, hide, is_map, learn, learned, put_pair, put_row, relearned_freq, without}
 use Rattle.chew_spec_dictionary.proofs.Counts.{count_put, count_without, missed}

@@ -3,7 +3,7 @@ ghost use Rattle.std.specs.Option.{option_copied};
 ghost use Rattle.chew_spec_syllable.specs.Row.{is_pair};
 ghost use Rattle.chew_spec_dictionary.specs.Call.{Rows};
 ghost use Rattle.chew_spec_dictionary.specs.Dictionary.{first_freq, forget, held_freq, hid, hide, is_map, learn, learned, put_pair};
-ghost use Rattle.chew_spec_dictionary.specs.Hidden.{shown_rows};
+ghost use Rattle.chew_spec_dictionary.specs.HiddenPairs.{shown_rows};
 ghost use Rattle.chew_spec_dictionary.specs.Look.{hits_of};
 ghost use Rattle.chew_spec_dictionary.specs.System.{greatest, peak_of, row_of};
 ghost use Rattle.chew_plain.specs.Call.{reply_of};

@@ -1,5 +1,5 @@
 ghost use Rattle.std.specs.Prelude.{◌≡◌};
-ghost use Rattle.chew_spec_dictionary.specs.Hidden.{is_hidden, can_hide};
+ghost use Rattle.chew_spec_dictionary.specs.HiddenPairs.{is_hidden, can_hide};
 
 use chew_syllable::{KeyRow, Syllable};
 

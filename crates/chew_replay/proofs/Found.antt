@@ -17,7 +17,7 @@ use Rattle.chew_spec_editor.proofs.Asked.{answers-found}
 use Rattle.chew_plain.specs.Call.{call_of, reply_of}
 use Rattle.chew_plain.specs.declared.call.Call.{Call}
 use Rattle.chew_plain.specs.declared.reply.Reply.{Reply}
-use Rattle.chew_replay.specs.Found.{IsFoundBy}
+use Rattle.chew_replay.specs.Reply.{IsFoundBy}
 
 -- a call's reply, at a point whose rows are rows
 pub found_by : (point : Point) (call : spec.Call) (reply : spec.Reply) → list_all is_row point.dictionary.pairs ≡ true

@@ -3,7 +3,7 @@ ghost use Rattle.std.specs.List.{AllZip, list_all};
 ghost use Rattle.chew_spec_outside.specs.Faults.{risen};
 ghost use Rattle.chew_spec_dictionary.specs.History.{answer, is_user_call, start_of};
 ghost use Rattle.chew_plain.specs.Call.{call_of, entry_of, reply_of};
-ghost use Rattle.chew_replay.specs.Found.{IsFoundBy};
+ghost use Rattle.chew_replay.specs.Reply.{IsFoundBy};
 
 use crate::fault::ReplayFault;
 use chew_plain::{Call, Entry, Hit, Plain, Reply, RowRef};

@@ -4,7 +4,7 @@ use Rattle.chew_spec_disk.specs.Memory.{disk_state}
 use Rattle.chew_spec_program.specs.Reading.{watched}
 use Rattle.chew_spec_program.specs.Slots.{kept}
 use Rattle.chew_spec_program.specs.Writing.{sunk}
-use Rattle.chewing_cli.specs.Done.{ended_of}
+use Rattle.chewing_cli.specs.RunEnd.{ended_of}
 use Rattle.chewing_cli.specs.Runs.{IsKeptRun}
 use Rattle.chew_run_samples.specs.declared.outside.Outside.{Outside}
 use Rattle.chew_run_samples.specs.declared.runs.Outcome.{Outcome}

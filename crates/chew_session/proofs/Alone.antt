@@ -7,7 +7,7 @@ use Rattle.std.proofs.lemmas.List.Elements.{All-cons, All-contains, All-contains
 use Rattle.chew_spec_dictionary.specs.History.{Entry, own}
 use Rattle.chew_spec_dictionary.specs.Growth.{IsFront}
 use Rattle.chew_spec_cell.specs.Pass.{Pass}
-use Rattle.chew_spec_cell.specs.Seen.{HasSeen}
+use Rattle.chew_spec_cell.specs.Sight.{HasSeen}
 use Rattle.chew_spec_cell.proofs.Fronts.{between}
 use Rattle.chew_spec_cell.proofs.Sights.{none-last}
 

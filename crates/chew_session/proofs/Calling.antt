@@ -7,8 +7,8 @@ use Rattle.chew_spec_dictionary.specs.History.{Entry, Point, after, answer, own,
 use Rattle.chew_spec_dictionary.specs.Growth.{IsFront, Made}
 use Rattle.chew_spec_dictionary.proofs.Growing.{made-over, made-own}
 use Rattle.chew_spec_cell.specs.Pass.{Cell, Pass}
-use Rattle.chew_spec_cell.specs.Seen.{HasSeen}
-use Rattle.chew_spec_shared.specs.Asked.{Asked, IsOf}
+use Rattle.chew_spec_cell.specs.Sight.{HasSeen}
+use Rattle.chew_spec_shared.specs.SharedCalls.{Asked, IsOf}
 use Rattle.chew_session.specs.Typing.{Asks, Hears}
 
 -- what is known of a result that is this one

@@ -13,10 +13,10 @@ use Rattle.chew_spec_text.specs.KeyStroke.{KeyStroke}
 use Rattle.chew_spec_text.specs.Line.{Line, line_text}
 use Rattle.chew_spec_editor.specs.Talk.{talk}
 use Rattle.chew_spec_cell.specs.Pass.{Cell, Pass, new_passes}
-use Rattle.chew_spec_cell.specs.Seen.{HasSeen}
+use Rattle.chew_spec_cell.specs.Sight.{HasSeen}
 use Rattle.chew_spec_cell.proofs.Fronts.{nothing_long}
 use Rattle.chew_spec_cell.proofs.Sights.{seen-over, seen-own}
-use Rattle.chew_spec_shared.specs.Asked.{IsOf}
+use Rattle.chew_spec_shared.specs.SharedCalls.{IsOf}
 use Rattle.chew_spec_session.specs.Context.{Basis, HandleAll, Handles, calls_with_next}
 use Rattle.chew_spec_session.specs.Session.{ContextEnd}
 use Rattle.chew_session.specs.Crew.{AllRan, AreDone, EachAnswered, IsFresh, SeesMore, context_passes, keys_at, keys_of_all}

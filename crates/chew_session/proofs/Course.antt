@@ -4,7 +4,7 @@ use Rattle.std.specs.List.{AllZip}
 use Rattle.chew_spec_dictionary.specs.History.{Entry, is_legal, start_of}
 use Rattle.chew_spec_text.specs.KeyStroke.{KeyStroke}
 use Rattle.chew_spec_cell.specs.Pass.{Pass}
-use Rattle.chew_spec_cell.specs.Seen.{HasSeen}
+use Rattle.chew_spec_cell.specs.Sight.{HasSeen}
 use Rattle.chew_spec_rounds.specs.Round.{Round}
 use Rattle.chew_spec_session.specs.Context.{Basis}
 use Rattle.chew_spec_session.specs.Session.{ContextEnd}

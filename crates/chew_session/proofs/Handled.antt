@@ -6,7 +6,7 @@ use Rattle.chew_spec_dictionary.specs.Call.{Call, Reply}
 use Rattle.chew_spec_dictionary.specs.History.{Entry, calls_of, replies}
 use Rattle.chew_spec_dictionary.specs.Growth.{IsFront, Made}
 use Rattle.chew_spec_dictionary.proofs.Growing.{grown-calls, grown-replies}
-use Rattle.chew_spec_cell.specs.Seen.{HasSeen}
+use Rattle.chew_spec_cell.specs.Sight.{HasSeen}
 use Rattle.chew_spec_cell.proofs.Fronts.{nothing_long}
 use Rattle.chew_spec_editor.specs.Editor.{empty_editor}
 use Rattle.chew_spec_editor.specs.Talk.{talk}

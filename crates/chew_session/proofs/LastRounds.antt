@@ -7,9 +7,9 @@ use Rattle.chew_spec_dictionary.specs.History.{Entry, Point, Shape, after, is_le
 use Rattle.chew_spec_dictionary.proofs.Growing.{front-itself, front-over}
 use Rattle.chew_spec_dictionary.proofs.Histories.{after_joined}
 use Rattle.chew_spec_layers.specs.Need.{Need, Waiting, Fresh, Nothing}
-use Rattle.chew_spec_cell.specs.Seen.{HasSeen}
+use Rattle.chew_spec_cell.specs.Sight.{HasSeen}
 use Rattle.chew_spec_cell.proofs.Sights.{seen-front}
-use Rattle.chew_spec_shared.specs.Needed.{IsNeed}
+use Rattle.chew_spec_shared.specs.Needs.{IsNeed}
 use Rattle.chew_spec_shared.specs.Snapshot.{waiting_after}
 use Rattle.chew_spec_rounds.specs.Round.{DiskFault, NoMemory, Round, Saved, SeqSpent}
 use Rattle.chew_spec_rounds.proofs.Fronts.{legal-front, legal-rest, none-some}

@@ -6,7 +6,7 @@ use Rattle.chew_spec_disk.specs.Disk.{DiskState}
 use Rattle.chew_spec_dictionary.specs.Dictionary.{Dictionary}
 use Rattle.chew_spec_dictionary.specs.History.{Entry}
 use Rattle.chew_spec_slots.specs.Keep.{Keep}
-use Rattle.chew_spec_cell.specs.Seen.{HasSeen}
+use Rattle.chew_spec_cell.specs.Sight.{HasSeen}
 use Rattle.chew_spec_rounds.specs.Round as spec
 use Rattle.chew_checkpoint.specs.Answers.{round_of}
 use Rattle.chew_checkpoint.specs.declared.round.Round.{Round}

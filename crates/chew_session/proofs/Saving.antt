@@ -8,7 +8,7 @@ use Rattle.chew_spec_dictionary.specs.Call.{Call}
 use Rattle.chew_spec_dictionary.specs.Dictionary.{Dictionary}
 use Rattle.chew_spec_dictionary.specs.History.{Entry, calls_of, is_legal, own, start_of}
 use Rattle.chew_spec_slots.specs.Keep.{Keep}
-use Rattle.chew_spec_cell.specs.Seen.{HasSeen}
+use Rattle.chew_spec_cell.specs.Sight.{HasSeen}
 use Rattle.chew_spec_cell.proofs.Sights.{seen-all}
 use Rattle.chew_spec_rounds.specs.InStep.{IsInStep}
 use Rattle.chew_spec_rounds.specs.Round.{AreKeepersCalls, DiskFault, NoMemory, Round, Saved, SeqSpent}

@@ -12,7 +12,7 @@ use Rattle.chew_spec_dictionary.specs.History.{Entry, Point, calls_of, is_legal,
 use Rattle.chew_spec_dictionary.proofs.Growing.{front-itself, front-over}
 use Rattle.chew_spec_text.specs.KeyStroke.{KeyStroke}
 use Rattle.chew_spec_cell.specs.Pass.{Pass}
-use Rattle.chew_spec_cell.specs.Seen.{HasSeen}
+use Rattle.chew_spec_cell.specs.Sight.{HasSeen}
 use Rattle.chew_spec_cell.proofs.Sights.{seen-front}
 use Rattle.chew_spec_rounds.specs.InStep.{IsInStep}
 use Rattle.chew_spec_rounds.specs.Round.{AreKeepersCalls, Round}

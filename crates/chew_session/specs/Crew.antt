@@ -8,8 +8,8 @@ use Rattle.chew_spec_text.specs.KeyStroke.{is_key_stroke}
 use Rattle.chew_spec_editor.specs.Invariant.{is_settings}
 use Rattle.chew_spec_editor.specs.Settings.{Settings}
 use Rattle.chew_spec_cell.specs.Pass.{Cell, Pass}
-use Rattle.chew_spec_cell.specs.Seen.{HasSeen}
-use Rattle.chew_spec_shared.specs.Asked.{IsOf}
+use Rattle.chew_spec_cell.specs.Sight.{HasSeen}
+use Rattle.chew_spec_shared.specs.SharedCalls.{IsOf}
 use Rattle.chew_spec_session.specs.Context.{Basis}
 use Rattle.chew_spec_session.specs.Session.{ContextEnd}
 use Rattle.chew_script.specs.Keys.{keys_of}

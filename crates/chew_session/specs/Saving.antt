@@ -7,8 +7,8 @@ use Rattle.chew_spec_dictionary.specs.History.{Entry, calls_of, is_legal, start_
 use Rattle.chew_spec_layers.specs.Need.{Need, Waiting, Fresh, Nothing}
 use Rattle.chew_spec_slots.specs.Keep.{Keep}
 use Rattle.chew_spec_cell.specs.Pass.{Pass}
-use Rattle.chew_spec_cell.specs.Seen.{HasSeen}
-use Rattle.chew_spec_shared.specs.Needed.{IsNeed}
+use Rattle.chew_spec_cell.specs.Sight.{HasSeen}
+use Rattle.chew_spec_shared.specs.Needs.{IsNeed}
 use Rattle.chew_spec_rounds.specs.InStep.{IsInStep}
 use Rattle.chew_spec_rounds.specs.Round.{AreKeepersCalls, DiskFault, IsRound, KeepersCalls, NoMemory, Round, Saved, SeqSpent}
 use Rattle.chew_spec_rounds.specs.Seq.{CountsSeq, saved_count}

@@ -4,7 +4,7 @@ ghost use Rattle.std.specs.Prelude.{◌≡◌, ◌≢◌, [], IfOk, IsTrue, OnEr
 ghost use Rattle.std.specs.List.{list_all};
 ghost use Rattle.chew_spec_dictionary.specs.Growth.{Made};
 ghost use Rattle.chew_spec_dictionary.specs.History.{is_legal, is_user_call, start_of};
-ghost use Rattle.chew_spec_shared.specs.Asked.{IsOf};
+ghost use Rattle.chew_spec_shared.specs.SharedCalls.{IsOf};
 ghost use Rattle.chew_plain.specs.Call.{call_of, reply_of};
 ghost use Rattle.chew_session.specs.Typing.{Asks, Hears};
 

@@ -3,7 +3,7 @@
 ghost use Rattle.std.specs.Prelude.{◌≡◌, ◌≤◌, [], IfSome, IsSomeAnd, length, map, take, vec_capacity, vec_len};
 ghost use Rattle.std.specs.Thread.{IsSync};
 ghost use Rattle.arrayvec.specs.ArrayVec.{array_vec_len};
-ghost use Rattle.chew_spec_shared.specs.Asked.{IsOf};
+ghost use Rattle.chew_spec_shared.specs.SharedCalls.{IsOf};
 ghost use Rattle.chew_checkpoint.specs.Answers.{round_of};
 ghost use Rattle.chew_session.specs.Crew.{AreDone, MayType, basis_of, context_passes, keys_of_all};
 ghost use Rattle.chew_session.specs.Saving.{MakeAll, stage};

@@ -6,7 +6,7 @@ ghost use Rattle.chew_spec_syllable.specs.Row.{is_row};
 ghost use Rattle.chew_spec_dictionary.specs.History.{start_of};
 ghost use Rattle.chew_spec_text.specs.KeyStroke.{is_key_stroke};
 ghost use Rattle.chew_spec_editor.specs.Invariant.{is_settings};
-ghost use Rattle.chew_spec_shared.specs.Asked.{IsOf};
+ghost use Rattle.chew_spec_shared.specs.SharedCalls.{IsOf};
 ghost use Rattle.chew_script.specs.Keys.{keys_of};
 ghost use Rattle.chew_session.specs.Typing.{Ran, Typed};
 

@@ -3,7 +3,7 @@
 ghost use Rattle.std.specs.Prelude.{◌≡◌, ◌≤◌, All, IsTrue, length, map, take, vec_capacity, vec_len};
 ghost use Rattle.std.specs.List.{list_all, range_with_len};
 ghost use Rattle.chew_spec_text.specs.KeyStroke.{is_key_stroke};
-ghost use Rattle.chew_spec_shared.specs.Asked.{IsOf};
+ghost use Rattle.chew_spec_shared.specs.SharedCalls.{IsOf};
 ghost use Rattle.chew_script.specs.Keys.{keys_of};
 ghost use Rattle.chew_session.specs.Crew.{AreDone, IsFresh, MayType, basis_of, context_passes, keys_at, keys_of_all};
 ghost use Rattle.chew_session.specs.Typing.{Ran};

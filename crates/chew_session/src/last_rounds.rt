@@ -3,7 +3,7 @@
 ghost use Rattle.std.specs.Prelude.{◌≡◌, ◌≤◌, ◌<◌, ◌++◌, List, map};
 ghost use Rattle.arrayvec.specs.ArrayVec.{array_vec_len};
 ghost use Rattle.chew_spec_rounds.specs.Round as spec;
-ghost use Rattle.chew_spec_shared.specs.Asked.{IsOf};
+ghost use Rattle.chew_spec_shared.specs.SharedCalls.{IsOf};
 ghost use Rattle.chew_layers.specs.Need.{meaning_of};
 ghost use Rattle.chew_checkpoint.specs.Answers.{round_of};
 ghost use Rattle.chew_session.specs.Saving.{Asks, GoOn, MakeAll, SaveLast, SavesChanges, stage};

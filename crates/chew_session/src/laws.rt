@@ -2,7 +2,7 @@
 
 ghost use Rattle.std.specs.Prelude.{◌≡◌, ◌≤◌, ℕ, List, length};
 ghost use Rattle.chew_spec_dictionary.specs.History.{Entry, calls_of};
-ghost use Rattle.chew_spec_cell.specs.Seen.{HasSeen};
+ghost use Rattle.chew_spec_cell.specs.Sight.{HasSeen};
 ghost use Rattle.chew_spec_text.specs.KeyStroke.{KeyStroke};
 ghost use Rattle.chew_spec_text.specs.Line.{Line};
 ghost use Rattle.chew_spec_session.specs.Context.{Basis, Handles, talk_in};

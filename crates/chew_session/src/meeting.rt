@@ -2,8 +2,8 @@
 
 ghost use Rattle.std.specs.Prelude.{◌≡◌, ◌≤◌, All, length, vec_capacity, vec_len};
 ghost use Rattle.std.specs.List.{AllZip};
-ghost use Rattle.chew_spec_cell.specs.Seen.{HasSeen};
-ghost use Rattle.chew_spec_shared.specs.Asked.{IsOf};
+ghost use Rattle.chew_spec_cell.specs.Sight.{HasSeen};
+ghost use Rattle.chew_spec_shared.specs.SharedCalls.{IsOf};
 ghost use Rattle.chew_session.specs.Crew.{SeesMore};
 
 use chew_cell::Pass;

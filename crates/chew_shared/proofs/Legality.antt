@@ -15,7 +15,7 @@ use Rattle.chew_spec_layers.specs.Standing.{StandForMap}
 use Rattle.chew_spec_layers.proofs.Steps.{waiting_number}
 use Rattle.chew_spec_cell.specs.Pass.{Cell, Pass, new_passes}
 use Rattle.chew_spec_cell.proofs.Passes.{slice_get-new_passes}
-use Rattle.chew_spec_cell.specs.Seen.{HasSeen}
+use Rattle.chew_spec_cell.specs.Sight.{HasSeen}
 use Rattle.chew_spec_shared.specs.Snapshot.{IsMerge, IsSnapshot, waiting_after}
 use Rattle.chew_spec_shared.proofs.Waiting.{merge-kept, waiting-kept}
 use Rattle.chew_spec_shared.proofs.Layered.{snapshot-held}

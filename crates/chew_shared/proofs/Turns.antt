@@ -4,8 +4,8 @@ use Rattle.chew_spec_dictionary.specs.Call.{Call, Reply}
 use Rattle.chew_spec_dictionary.specs.History.{Entry, after, answer, start_of}
 use Rattle.chew_spec_layers.specs.Layers.{Layers}
 use Rattle.chew_spec_cell.specs.Pass.{Pass}
-use Rattle.chew_spec_cell.specs.Seen.{HasSeen}
-use Rattle.chew_spec_shared.specs.Asked.{Asked}
+use Rattle.chew_spec_cell.specs.Sight.{HasSeen}
+use Rattle.chew_spec_shared.specs.SharedCalls.{Asked}
 
 -- what a call made of its pass
 pub asked : (pass : Pass) (call : Call) (reply : Reply) (old now : Layers) (by : ℕ) (seen : List Entry) → HasSeen pass.who pass.seen old.journal → by ≡ pass.who → old.start ≡ pass.cell.start

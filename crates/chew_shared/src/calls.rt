@@ -4,8 +4,8 @@ ghost use Rattle.std.specs.Prelude.{◌≡◌, ◌≢◌, ◌≤◌, IfOk, IsTru
 ghost use Rattle.chew_spec_syllable.specs.Row.{is_pair};
 ghost use Rattle.chew_spec_dictionary.specs.Call as calls;
 ghost use Rattle.chew_spec_dictionary.specs.History.{is_legal, is_user_call, start_of};
-ghost use Rattle.chew_spec_cell.specs.Seen.{HasSeen};
-ghost use Rattle.chew_spec_shared.specs.Asked.{Asked, IsOf};
+ghost use Rattle.chew_spec_cell.specs.Sight.{HasSeen};
+ghost use Rattle.chew_spec_shared.specs.SharedCalls.{Asked, IsOf};
 ghost use Rattle.chew_plain.specs.Call.{call_of, reply_of};
 
 use crate::shared::Shared;

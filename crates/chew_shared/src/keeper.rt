@@ -5,9 +5,9 @@ ghost use Rattle.std.specs.Arc.{arc_value};
 ghost use Rattle.chew_spec_dictionary.specs.Call.{Freeze, Frozen, Install, Installed};
 ghost use Rattle.chew_spec_dictionary.specs.History.{is_legal, start_of};
 ghost use Rattle.chew_spec_layers.specs.Overlay.{overlay};
-ghost use Rattle.chew_spec_cell.specs.Seen.{HasSeen};
-ghost use Rattle.chew_spec_shared.specs.Asked.{Asked, IsOf};
-ghost use Rattle.chew_spec_shared.specs.Needed.{IsNeed};
+ghost use Rattle.chew_spec_cell.specs.Sight.{HasSeen};
+ghost use Rattle.chew_spec_shared.specs.SharedCalls.{Asked, IsOf};
+ghost use Rattle.chew_spec_shared.specs.Needs.{IsNeed};
 ghost use Rattle.chew_spec_shared.specs.Snapshot.{IsMerge, IsSnapshot, waiting_after};
 ghost use Rattle.chew_layers.specs.Need.{meaning_of};
 

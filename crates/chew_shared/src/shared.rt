@@ -2,8 +2,8 @@ ghost use Rattle.std.specs.Prelude.{◌≡◌, ◌+◌, ◌≤◌, [], ◌∷◌
 ghost use Rattle.chew_spec_dictionary.specs.History.{is_legal, start_of};
 ghost use Rattle.chew_spec_layers.specs.Standing.{StandForMap};
 ghost use Rattle.chew_spec_cell.specs.Pass.{new_passes};
-ghost use Rattle.chew_spec_cell.specs.Seen.{HasSeen, longer};
-ghost use Rattle.chew_spec_shared.specs.Asked.{IsOf};
+ghost use Rattle.chew_spec_cell.specs.Sight.{HasSeen, longer};
+ghost use Rattle.chew_spec_shared.specs.SharedCalls.{IsOf};
 
 use crate::legal::LegalLayers;
 use crate::opened::{KeeperPass, Opened};

@@ -2,7 +2,7 @@ ghost use Rattle.std.specs.Prelude.{◌≡◌, ◌≤◌, IfOk, length};
 ghost use Rattle.std.specs.Arc.{arc_value};
 ghost use Rattle.chew_spec_dictionary.specs.Call.{Install, Installed};
 ghost use Rattle.chew_spec_layers.specs.Overlay.{overlay};
-ghost use Rattle.chew_spec_shared.specs.Asked.{Asked, IsOf};
+ghost use Rattle.chew_spec_shared.specs.SharedCalls.{Asked, IsOf};
 ghost use Rattle.chew_spec_shared.specs.Snapshot.{IsSnapshot};
 
 use chew_layers::Snapshot;

@@ -1,7 +1,7 @@
 ghost use Rattle.std.specs.Prelude.{◌≡◌, ◌+◌, ◌≤◌, [], ◌∷◌, All, IfOk, None};
 ghost use Rattle.chew_spec_cell.specs.Pass.{new_passes};
 ghost use Rattle.chew_spec_image.specs.Reading.{image_place, rows_in};
-ghost use Rattle.chew_spec_shared.specs.Asked.{IsOf};
+ghost use Rattle.chew_spec_shared.specs.SharedCalls.{IsOf};
 
 use chew_shared::{Opened, Shared};
 use chew_syllable::NoMemory;

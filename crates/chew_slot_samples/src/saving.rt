@@ -5,7 +5,7 @@ ghost use Rattle.chew_spec_outside.specs.Faults.{HasCause};
 ghost use Rattle.chew_spec_slots.specs.Keep.{advanced, with_shut};
 ghost use Rattle.chew_spec_slots.specs.Recovery.{recovered};
 ghost use Rattle.chew_slots.specs.Answers.{TellsRefusal};
-ghost use Rattle.chew_slots.specs.Untouched.{IsUntouched};
+ghost use Rattle.chew_slots.specs.ReadOnly.{IsUntouched};
 ghost use Rattle.chew_slot_samples.specs.Answers.{IsFine, IsOf, step_failed};
 
 use crate::maps::{Learnt, image_of, is_found, life_of};

@@ -14,8 +14,8 @@ use Rattle.chew_spec_slots.specs.Recovery.{Recovery, Recovered, checkpoint_of, d
 use Rattle.chew_spec_slots.specs.Slot.{Checkpoint, length_limit}
 use Rattle.chew_spec_slots.proofs.Found.{IsFound, found}
 use Rattle.chew_slots.specs.Answers.{Answers, AreTold, IsRead, TellsRefusal}
-use Rattle.chew_slots.specs.Stored.{reading_of}
-use Rattle.chew_slots.specs.Untouched.{IsUntouched}
+use Rattle.chew_slots.specs.Contents.{reading_of}
+use Rattle.chew_slots.specs.ReadOnly.{IsUntouched}
 use Rattle.chew_slots.specs.declared.fault.SlotFault.{SlotFault}
 use Rattle.chew_slots.specs.declared.fault.SlotFault.TheVariants.{NoMemory}
 use Rattle.chew_slots.specs.declared.recovery.Found.{Found}

@@ -3,7 +3,7 @@ use Rattle.std.specs.Prelude.{◌≡◌, ℕ, Bool, true, false, List, Option, N
 use Rattle.chew_spec_slots.specs.Keep.{Keep as KeepState}
 use Rattle.chew_spec_slots.specs.Reading.{is_surely_shut, slot_reading}
 use Rattle.chew_spec_slots.specs.Recovery.{Recovery, Recovered, refusal, unless_refused}
-use Rattle.chew_slots.specs.Stored.{reading_of}
+use Rattle.chew_slots.specs.Contents.{reading_of}
 use Rattle.chew_slots.specs.declared.fault.SlotFault.{SlotFault}
 use Rattle.chew_slots.specs.declared.fault.SlotFault.TheVariants.{DiskFault, TooLarge, Damaged, NoMemory}
 use Rattle.chew_slots.specs.declared.slot_read.SlotRead.{SlotRead}

@@ -1,4 +1,4 @@
 pub mod Answers
 pub mod Calls
-pub mod Stored
-pub mod Untouched
+pub mod Contents
+pub mod ReadOnly

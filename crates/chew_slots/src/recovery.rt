@@ -7,8 +7,8 @@ ghost use Rattle.chew_spec_slots.specs.Keep.{acknowledged_state, found_keep, kee
 ghost use Rattle.chew_spec_slots.specs.Recovery.{checkpoint_of, newest, recovered, refusal};
 ghost use Rattle.chew_slots.specs.Answers.{Answers, AreTold, disk_failed};
 ghost use Rattle.chew_slots.specs.Calls.{reading_calls};
-ghost use Rattle.chew_slots.specs.Stored.{reading_of};
-ghost use Rattle.chew_slots.specs.Untouched.{IsUntouched};
+ghost use Rattle.chew_slots.specs.Contents.{reading_of};
+ghost use Rattle.chew_slots.specs.ReadOnly.{IsUntouched};
 
 use crate::slot_read::{SlotRead, read_slot};
 use crate::stored::Stored;

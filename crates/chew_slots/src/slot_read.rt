@@ -6,7 +6,7 @@ ghost use Rattle.chew_spec_disk.specs.Disk.{IsDisk};
 ghost use Rattle.chew_spec_slots.specs.Recovery.{Recovery, refusal, unless_refused};
 ghost use Rattle.chew_slots.specs.Answers.{AreTold, IsRead, ReadsAs, TellsRefusal, disk_failed};
 ghost use Rattle.chew_slots.specs.Calls.{reading_calls};
-ghost use Rattle.chew_slots.specs.Untouched.{IsUntouched};
+ghost use Rattle.chew_slots.specs.ReadOnly.{IsUntouched};
 
 use crate::SlotFault;
 use crate::fields::is_surely_shut;

@@ -3,7 +3,7 @@
 ghost use Rattle.std.specs.Prelude.{◌≡◌, ◌+◌, ◌≤◌, ◌^◌, ℕ, Ok, IfErr, IfOk, List, length};
 ghost use Rattle.chew_spec_image.specs.Reading.{image_reading};
 ghost use Rattle.chew_spec_slots.specs.Reading.{as_open, image_in, image_len, saved_as, saved_in, slot_reading};
-ghost use Rattle.chew_slots.specs.Stored.{TellsFaulty, reading_of};
+ghost use Rattle.chew_slots.specs.Contents.{TellsFaulty, reading_of};
 
 use crate::damage::fault_in;
 use crate::fields::{HEAD_LEN, image_len, is_open, life_in, seq_in};

@@ -4,7 +4,7 @@ use Rattle.std.proofs.lemmas.Bool.Decides.{nat_tests}
 use Rattle.chew_spec_dictionary.specs.Growth.{IsFront}
 use Rattle.chew_spec_dictionary.specs.History.{Entry, own}
 use Rattle.chew_spec_dictionary.proofs.Histories.{own_joined}
-use Rattle.chew_spec_cell.specs.Seen.{HasSeen, IsTurn, longer}
+use Rattle.chew_spec_cell.specs.Sight.{HasSeen, IsTurn, longer}
 use Rattle.chew_spec_cell.proofs.Fronts.{between, nothing_joined, nothing_long}
 
 -- none of two stretches is of a number exactly where none of both is

@@ -4,7 +4,7 @@ use Rattle.std.specs.List.{list_all}
 use Rattle.std.proofs.lemmas.Bool.{and_parts, cond-false, lt-leb}
 use Rattle.chew_spec_syllable.specs.Row.{Row, image_cmp, is_pair_of}
 use Rattle.chew_spec_dictionary.specs.Call.{Call, Look, Learn, Forget, Hide, Freeze, Install}
-use Rattle.chew_spec_dictionary.specs.Hidden.{hidden_time}
+use Rattle.chew_spec_dictionary.specs.HiddenPairs.{hidden_time}
 use Rattle.chew_spec_dictionary.specs.System.{row_of}
 use Rattle.chew_spec_dictionary.specs.Dictionary.{Dictionary, Outcome, held_freq, first_freq, time_of_learn, put_row, without, is_map, learn, forget, hid, hide}
 use Rattle.chew_spec_dictionary.specs.History.{Point, Entry, answer, after}

@@ -7,7 +7,7 @@ use Rattle.std.proofs.lemmas.List.Elements.{All-contains, All-filter, All-contai
 use Rattle.std.proofs.lemmas.List.Folds.{list_any_at}
 use Rattle.std.proofs.lemmas.Slice.Eq.{bytes_eq-Decides}
 use Rattle.chew_spec_syllable.specs.Row.{Row, is_pair_of}
-use Rattle.chew_spec_dictionary.specs.Hidden.{is_hidden, shown_rows}
+use Rattle.chew_spec_dictionary.specs.HiddenPairs.{is_hidden, shown_rows}
 use Rattle.chew_spec_dictionary.specs.System.{freq_of, row_of, rows_under, is_under, has_single}
 use Rattle.chew_spec_dictionary.proofs.ImageOrder.{of_pair, is_of_pair}
 use Rattle.chew_spec_dictionary.proofs.Pairs.{found_first, found_later}

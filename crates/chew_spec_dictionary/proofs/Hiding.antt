@@ -3,7 +3,7 @@ use Rattle.std.proofs.Common.{◌≡◌, ◌↔◌, ◌⊎◌, inl, inr, ⊎_eli
 use Rattle.std.proofs.lemmas.Bool.{false_from_ne_true, and_parts, and_from, cond-true, cond-false, lt-leb, le-leb, leb-true, leb-false, cases_Bool, true≢false, eq-eqb, eqb-true, not-true}
 use Rattle.chew_spec_syllable.specs.Row.{Row}
 use Rattle.chew_spec_dictionary.specs.Call.{Full, NotThere, Hid}
-use Rattle.chew_spec_dictionary.specs.Hidden.{can_hide, hidden_time, is_hidden, shown_rows}
+use Rattle.chew_spec_dictionary.specs.HiddenPairs.{can_hide, hidden_time, is_hidden, shown_rows}
 use Rattle.chew_spec_dictionary.specs.System.{row_of}
 use Rattle.chew_spec_dictionary.specs.Dictionary.{Dictionary, Outcome, hid, hide, unless_full}
 use Rattle.chew_spec_dictionary.proofs.Pairs.{put_found, put_others, other_pair}

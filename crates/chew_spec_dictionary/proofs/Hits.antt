@@ -8,7 +8,7 @@ use Rattle.std.proofs.lemmas.List.Sorted.{All-permutation, Contains-permutation}
 use Rattle.std.proofs.lemmas.Slice.Eq.{bytes_eq-Decides}
 use Rattle.chew_spec_syllable.specs.Row.{Row}
 use Rattle.chew_spec_dictionary.specs.Call.{Hit}
-use Rattle.chew_spec_dictionary.specs.Hidden.{is_hidden}
+use Rattle.chew_spec_dictionary.specs.HiddenPairs.{is_hidden}
 use Rattle.chew_spec_dictionary.specs.Order.{in_order}
 use Rattle.chew_spec_dictionary.specs.System.{rows_under, is_under}
 use Rattle.chew_spec_dictionary.specs.Look.{Interval, intervals, codes_at, shown_cmp, hit_of, hits_of}

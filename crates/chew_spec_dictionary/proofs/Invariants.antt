@@ -4,7 +4,7 @@ use Rattle.std.specs.List.{list_all, filter}
 use Rattle.std.proofs.lemmas.Bool.{cond_both, or_left, or_right, and_parts, and_from, le-leb, leb-true}
 use Rattle.chew_spec_syllable.specs.Row.{Row, image_cmp, is_row, is_pair, is_pair_of, greatest_freq}
 use Rattle.chew_spec_dictionary.specs.Call.{Call, Look, Learn, Forget, Hide, Freeze, Install, Reply, is_proper}
-use Rattle.chew_spec_dictionary.specs.Hidden.{can_hide, hidden_time, is_hidden}
+use Rattle.chew_spec_dictionary.specs.HiddenPairs.{can_hide, hidden_time, is_hidden}
 use Rattle.chew_spec_dictionary.specs.System.{row_of}
 use Rattle.chew_spec_dictionary.specs.Dictionary.{Dictionary, held_freq, relearned_freq, first_freq, time_of_learn, put_row, learn, hide}
 use Rattle.chew_spec_dictionary.specs.History.{Point, Entry, answer, after, replies, calls_of, is_legal, is_legal_entry, installs_waiting, is_keepers}

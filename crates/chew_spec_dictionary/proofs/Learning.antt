@@ -3,7 +3,7 @@ use Rattle.std.proofs.Common.{◌≡◌, ◌↔◌, ◌⊎◌, inl, inr, ⊎_eli
 use Rattle.std.proofs.lemmas.Bool.{and_right, eqb-true, false_from_ne_true, cond_both, cond-true, cond-false, lt-leb, leb-true, leb-false, cases_Bool, true≢false}
 use Rattle.chew_spec_syllable.specs.Row.{Row}
 use Rattle.chew_spec_dictionary.specs.Call.{Learned, Full, Forgot, NotThere}
-use Rattle.chew_spec_dictionary.specs.Hidden.{can_hide, is_hidden, shown_rows}
+use Rattle.chew_spec_dictionary.specs.HiddenPairs.{can_hide, is_hidden, shown_rows}
 use Rattle.chew_spec_dictionary.specs.System.{row_of, peak_of}
 use Rattle.chew_spec_dictionary.specs.Frequency.{update}
 use Rattle.chew_spec_dictionary.specs.Dictionary.{Dictionary, Outcome, learn, learned, unless_full, first_freq, held_freq, relearned_freq, time_of_learn, forget, without}

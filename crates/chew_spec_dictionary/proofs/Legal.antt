@@ -3,7 +3,7 @@ use Rattle.std.proofs.Common.{◌≡◌, ◌↔◌, ℕ, zero, suc, ◌≤◌, �
 use Rattle.std.specs.Option.{option_map_or}
 use Rattle.std.proofs.lemmas.Bool.{and_from, and_parts, cond-false, cond-true, eq-eqb, eqb-true, le-leb, leb-true, ne_eqb, true≢false}
 use Rattle.chew_spec_syllable.specs.Row.{greatest_freq, is_pair}
-use Rattle.chew_spec_dictionary.specs.Hidden.{can_hide}
+use Rattle.chew_spec_dictionary.specs.HiddenPairs.{can_hide}
 use Rattle.chew_spec_dictionary.specs.Call.{Call, Look, Learn, Forget, Hide, Freeze, Install, is_proper}
 use Rattle.chew_spec_dictionary.specs.History.{Entry, Point, after, answer, installs_waiting, is_keepers, is_legal, is_legal_entry, is_user_call}
 use Rattle.chew_spec_dictionary.proofs.Histories.{legal_joined}

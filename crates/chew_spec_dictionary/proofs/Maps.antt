@@ -3,7 +3,7 @@ use Rattle.std.proofs.Common.{◌≡◌, ℕ, Bool, true, false, List, [], ◌�
 use Rattle.std.specs.List.{list_all, filter}
 use Rattle.std.proofs.lemmas.Bool.{cond_both, and_parts, and_from, cases_Bool}
 use Rattle.chew_spec_syllable.specs.Row.{Row, image_cmp, is_pair_of}
-use Rattle.chew_spec_dictionary.specs.Hidden.{hidden_time}
+use Rattle.chew_spec_dictionary.specs.HiddenPairs.{hidden_time}
 use Rattle.chew_spec_dictionary.specs.System.{row_of}
 use Rattle.chew_spec_dictionary.specs.Dictionary.{Dictionary, put_row, is_map, learn, forget, hide, time_of_learn}
 use Rattle.chew_spec_dictionary.specs.Call.{Call, Look, Learn, Forget, Hide, Freeze, Install}

@@ -3,7 +3,7 @@ use Rattle.std.specs.Prelude.{ℕ, ◌+◌, Bool, ◌&&◌, List, length, nat_le
 use Rattle.chew_spec_syllable.specs.Key.{is_run}
 use Rattle.chew_spec_syllable.specs.Phrase.{is_phrase}
 use Rattle.chew_spec_syllable.specs.Row.{is_pair, greatest_freq}
-use Rattle.chew_spec_dictionary.specs.Hidden.{can_hide}
+use Rattle.chew_spec_dictionary.specs.HiddenPairs.{can_hide}
 
 pub data Call : Type 0 where
   Look : (run : List ℕ) → Call

@@ -6,7 +6,7 @@ use Rattle.std.specs.Ordering.{match_ordering, is_lt}
 use Rattle.chew_spec_syllable.specs.Row.{Row, image_cmp, is_pair_of}
 use Rattle.chew_spec_dictionary.specs.Call.{Reply, Learned, Full, Forgot, NotThere, Hid}
 use Rattle.chew_spec_dictionary.specs.Frequency.{update}
-use Rattle.chew_spec_dictionary.specs.Hidden.{hidden_time, is_hidden, shown_rows}
+use Rattle.chew_spec_dictionary.specs.HiddenPairs.{hidden_time, is_hidden, shown_rows}
 use Rattle.chew_spec_dictionary.specs.System.{peak_of, row_of}
 
 -- the life counts the learns, up to 2^64 - 1; the cap, at which no new pair is added, never changes

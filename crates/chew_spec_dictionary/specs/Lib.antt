@@ -3,7 +3,7 @@ pub mod Dictionary
 pub mod FiveRows
 pub mod Frequency
 pub mod Growth
-pub mod Hidden
+pub mod HiddenPairs
 pub mod History
 pub mod Known
 pub mod Look

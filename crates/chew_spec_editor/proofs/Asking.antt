@@ -12,7 +12,7 @@ use Rattle.chew_spec_syllable.specs.Syllable.{is_code}
 use Rattle.chew_spec_dictionary.specs.Call.{Call, Look, is_proper}
 use Rattle.chew_spec_dictionary.specs.History.{is_keepers, is_user_call}
 use Rattle.chew_spec_dictionary.specs.Call as call
-use Rattle.chew_spec_dictionary.specs.Hidden.{can_hide}
+use Rattle.chew_spec_dictionary.specs.HiddenPairs.{can_hide}
 use Rattle.chew_spec_dictionary.specs.System.{has_single}
 use Rattle.chew_spec_layout.specs.Layout.{cleared, feed, holds}
 use Rattle.chew_spec_layout.specs.Step.{Step, Kept, Whole, Refused, Erased, NotMine}
@@ -33,7 +33,7 @@ use Rattle.chew_spec_editor.specs.Editor.{Editor, characters_of, shown_text}
 use Rattle.chew_spec_editor.specs.Finish.{finish}
 use Rattle.chew_spec_editor.specs.Invariant.{asks_rightly, covers, is_editor, is_pending, is_piece, is_steady, piece_places}
 use Rattle.chew_spec_editor.specs.Keys.{press, press_free, press_plain, press_selection, press_window}
-use Rattle.chew_spec_editor.specs.Learnt.{key_at, learns}
+use Rattle.chew_spec_editor.specs.Learning.{key_at, learns}
 use Rattle.chew_spec_editor.specs.Pending.{Pending, calls_of, runs_asked, with_buffer}
 use Rattle.chew_spec_editor.specs.PhraseKeys.{are_sounds_ahead, press_about, press_add, press_forget, press_hide}
 use Rattle.chew_spec_editor.specs.Press.{Pressed, Done, Ask, after_step, asking, bell, edit, go_to, insert, leading_cells, leading_learns, learn_shown, opening, press_backspace, press_char, press_delete, press_down, press_enter, press_esc, press_left, press_right, press_tab, quiet, releasing, text_at, window_place}

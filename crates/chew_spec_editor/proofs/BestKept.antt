@@ -11,7 +11,7 @@ use Rattle.chew_spec_dictionary.specs.Call.{Call, Reply}
 use Rattle.chew_spec_dictionary.specs.Look.{hits_of}
 use Rattle.chew_spec_phrasing.specs.Best.{IsBest, best_pieces}
 use Rattle.chew_spec_phrasing.specs.CanSegment.{CanSegment}
-use Rattle.chew_spec_phrasing.specs.Combined.{combined_hits}
+use Rattle.chew_spec_phrasing.specs.CombinedRows.{combined_hits}
 use Rattle.chew_spec_phrasing.specs.Usable.{Choice, Piece, phrase_len}
 use Rattle.chew_spec_phrasing.proofs.CanSegment.{IsBest-from_CanSegment}
 use Rattle.chew_spec_preedit.specs.Buffer.{Buffer}
@@ -28,7 +28,7 @@ use Rattle.chew_spec_editor.specs.Finish.{best_of_run, finish, hits_in, phrased,
 use Rattle.chew_spec_editor.specs.Invariant.{HasSingles, asks_rightly, covers, is_editor, is_pending, is_piece, is_steady, piece_places, run_places}
 use Rattle.chew_spec_editor.specs.Keys.{calls_asked, press}
 use Rattle.chew_spec_editor.specs.Pending.{Pending, calls_of, runs_asked}
-use Rattle.chew_spec_editor.specs.Phrased.{IsBestFor, IsPhrased}
+use Rattle.chew_spec_editor.specs.BestPieces.{IsBestFor, IsPhrased}
 use Rattle.chew_spec_editor.specs.Press.{Pressed, Done, Ask}
 use Rattle.chew_spec_editor.specs.RunPieces.{AreBestIn, piece_back, pieces_in, usable_in}
 use Rattle.chew_spec_editor.specs.Settings.{Settings}

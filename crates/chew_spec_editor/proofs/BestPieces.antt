@@ -13,7 +13,7 @@ use Rattle.chew_spec_dictionary.specs.Look.{Interval, hits_of}
 use Rattle.chew_spec_dictionary.specs.System.{has_single}
 use Rattle.chew_spec_phrasing.specs.Best.{best_pieces}
 use Rattle.chew_spec_phrasing.specs.CanSegment.{CanSegment, interval_of}
-use Rattle.chew_spec_phrasing.specs.Combined.{combined_hits}
+use Rattle.chew_spec_phrasing.specs.CombinedRows.{combined_hits}
 use Rattle.chew_spec_phrasing.specs.Segmentation.{GivesOwn, lengths, pieces_from}
 use Rattle.chew_spec_phrasing.specs.Usable.{Choice, Piece, choice_end, is_exactly, meets, phrase_len, piece_at, piece_by_rows, piece_of_choice}
 use Rattle.chew_spec_phrasing.proofs.CanSegment.{IsBest-from_CanSegment}

@@ -11,7 +11,7 @@ use Rattle.chew_spec_phrasing.proofs.Membership.{Contains-from_flat_map}
 use Rattle.chew_spec_phrasing.proofs.Usable.{Passes-from_find}
 use Rattle.chew_spec_syllable.specs.Phrase.{is_phrase}
 use Rattle.chew_spec_preedit.specs.Cell.{Cell, Sound, Symbol, is_sound}
-use Rattle.chew_spec_preedit.specs.Shown.{character_at, characters_from, characters_of, has_cell}
+use Rattle.chew_spec_preedit.specs.ShownText.{character_at, characters_from, characters_of, has_cell}
 use Rattle.chew_spec_editor.specs.Invariant.{covers, is_piece, piece_places}
 use Rattle.chew_spec_editor.proofs.Opened.{test-all}
 use Rattle.chew_spec_editor.proofs.ShownRows.{passes}

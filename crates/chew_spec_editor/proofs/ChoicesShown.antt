@@ -10,7 +10,7 @@ use Rattle.chew_spec_dictionary.specs.Call.{Reply}
 use Rattle.chew_spec_dictionary.specs.Look.{hits_of}
 use Rattle.chew_spec_phrasing.specs.Best.{best_pieces}
 use Rattle.chew_spec_phrasing.specs.CanSegment.{Shows}
-use Rattle.chew_spec_phrasing.specs.Combined.{combined_hits}
+use Rattle.chew_spec_phrasing.specs.CombinedRows.{combined_hits}
 use Rattle.chew_spec_phrasing.specs.Usable.{Choice, Piece, choice_end, phrase_len}
 use Rattle.chew_spec_phrasing.proofs.CanSegment.{IsBest-from_CanSegment}
 use Rattle.chew_spec_phrasing.proofs.Chosen.{shown-IsSegmentation}

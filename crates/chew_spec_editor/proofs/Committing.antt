@@ -17,12 +17,12 @@ use Rattle.chew_spec_preedit.specs.Cell.{Cell, has_sound}
 use Rattle.chew_spec_preedit.specs.Edit.{emptied, has_break, inserted, is_full, released}
 use Rattle.chew_spec_preedit.proofs.Spliced.{is_outside, is_outside-left, is_outside-right, outside-from}
 use Rattle.chew_spec_text.specs.KeyStroke.{Enter}
-use Rattle.chew_spec_editor.specs.Committed.{buffer_left, changes_made, committed, phrase_learnt}
+use Rattle.chew_spec_editor.specs.Commits.{buffer_left, changes_made, committed, phrase_learnt}
 use Rattle.chew_spec_editor.specs.Editor.{Editor, characters_of, line_of, shown_text}
 use Rattle.chew_spec_editor.specs.Finish.{finish}
 use Rattle.chew_spec_editor.specs.Invariant.{is_piece}
 use Rattle.chew_spec_editor.specs.Keys.{press, press_free, press_plain}
-use Rattle.chew_spec_editor.specs.Learnt.{Stretch, go_together, learns, learns_of, part_of, phrase_limit, stretch_of, stretches, with_stretch}
+use Rattle.chew_spec_editor.specs.Learning.{Stretch, go_together, learns, learns_of, part_of, phrase_limit, stretch_of, stretches, with_stretch}
 use Rattle.chew_spec_editor.specs.Pending.{Pending, calls_of, with_buffer}
 use Rattle.chew_spec_editor.specs.Press.{Done, Ask, asking, bell, edit, insert, leading_cells, leading_learns, learn_shown, press_enter, releasing, text_at}
 use Rattle.chew_spec_editor.proofs.Moves.{press-free, press-plain}

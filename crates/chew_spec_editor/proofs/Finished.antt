@@ -9,7 +9,7 @@ use Rattle.std.proofs.lemmas.List.Concat.{flat_map-append}
 use Rattle.chew_spec_syllable.specs.Row.{Row, is_row}
 use Rattle.chew_spec_dictionary.specs.Call.{Call, Look, Reply}
 use Rattle.chew_spec_dictionary.specs.Look.{hits_of}
-use Rattle.chew_spec_phrasing.specs.Combined.{combined_hits}
+use Rattle.chew_spec_phrasing.specs.CombinedRows.{combined_hits}
 use Rattle.chew_spec_phrasing.specs.Usable.{Piece}
 use Rattle.chew_spec_preedit.specs.Buffer.{Buffer}
 use Rattle.chew_spec_preedit.specs.Cell.{has_sound}

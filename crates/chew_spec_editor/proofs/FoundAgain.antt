@@ -6,7 +6,7 @@ use Rattle.std.proofs.lemmas.Option.{same_Some}
 use Rattle.chew_spec_syllable.specs.Row.{Row, is_pair, no_pair_twice}
 use Rattle.chew_spec_dictionary.specs.Call.{Full, Hide, Hit, Learn, Look, is_proper}
 use Rattle.chew_spec_dictionary.specs.Dictionary.{is_map, learn}
-use Rattle.chew_spec_dictionary.specs.Hidden.{can_hide, is_hidden}
+use Rattle.chew_spec_dictionary.specs.HiddenPairs.{can_hide, is_hidden}
 use Rattle.chew_spec_dictionary.specs.History.{Point, answer}
 use Rattle.chew_spec_dictionary.specs.Look.{Interval, codes_at, hits_of, intervals}
 use Rattle.chew_spec_dictionary.specs.System.{row_of}

@@ -8,10 +8,10 @@ use Rattle.std.proofs.lemmas.List.Elements.{All-contains}
 use Rattle.std.proofs.lemmas.Option.{none-some, same_Some}
 use Rattle.chew_spec_syllable.specs.Row.{Row, is_row}
 use Rattle.chew_spec_dictionary.specs.Call.{Hit, Reply}
-use Rattle.chew_spec_dictionary.specs.Hidden.{can_hide, hidden_time, is_hidden}
+use Rattle.chew_spec_dictionary.specs.HiddenPairs.{can_hide, hidden_time, is_hidden}
 use Rattle.chew_spec_dictionary.specs.Look.{Interval, codes_at, intervals}
 use Rattle.chew_spec_dictionary.specs.System.{rows_under}
-use Rattle.chew_spec_phrasing.specs.Combined.{combined, combined_hits, found_rows, has_phrase, is_hit_at, row_of_hit, shown_hit}
+use Rattle.chew_spec_phrasing.specs.CombinedRows.{combined, combined_hits, found_rows, has_phrase, is_hit_at, row_of_hit, shown_hit}
 use Rattle.chew_spec_phrasing.specs.Segmentation.{lengths, pieces_from}
 use Rattle.chew_spec_phrasing.specs.Usable.{Choice, HaveOwnLengths, Piece, is_exactly, keeps_choices, phrase_len, piece_at, piece_by_rows, piece_of_choice, piece_of_hit}
 use Rattle.chew_spec_phrasing.proofs.Combined.{Contains-combined-cases, Contains-rows_under, has_phrase-from_Contains}

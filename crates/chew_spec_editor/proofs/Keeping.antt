@@ -29,7 +29,7 @@ use Rattle.chew_spec_editor.specs.Editor.{Editor, empty_editor, shown_text}
 use Rattle.chew_spec_editor.specs.Finish.{finish, phrased}
 use Rattle.chew_spec_editor.specs.Invariant.{asks_rightly, covers, is_editor, is_pending, is_piece, run_places, is_settings, is_steady, is_window_over}
 use Rattle.chew_spec_editor.specs.Keys.{press, press_free, press_plain, press_selection, press_window}
-use Rattle.chew_spec_editor.specs.Learnt.{learns}
+use Rattle.chew_spec_editor.specs.Learning.{learns}
 use Rattle.chew_spec_editor.specs.Pending.{Pending, calls_of}
 use Rattle.chew_spec_editor.specs.PhraseKeys.{are_sounds_ahead, press_about, press_add, press_forget, press_hide}
 use Rattle.chew_spec_editor.specs.Press.{Pressed, Done, Ask, after_step, asking, bell, edit, go_to, insert, leading_cells, opening, press_backspace, press_char, press_delete, press_down, press_enter, press_esc, press_left, press_right, press_tab, quiet, releasing, window_place}

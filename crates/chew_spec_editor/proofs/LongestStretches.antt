@@ -14,9 +14,9 @@ use Rattle.chew_spec_phrasing.proofs.Membership.{Contains-head, Contains-tail}
 use Rattle.chew_spec_preedit.specs.Cell.{Cell, has_sound}
 use Rattle.chew_spec_preedit.specs.Edit.{has_break}
 use Rattle.chew_spec_preedit.proofs.Parts.{list_all-drop, list_all-take}
-use Rattle.chew_spec_editor.specs.Committed.{phrase_learnt}
+use Rattle.chew_spec_editor.specs.Commits.{phrase_learnt}
 use Rattle.chew_spec_editor.specs.Invariant.{covers, is_piece, piece_places}
-use Rattle.chew_spec_editor.specs.Learnt.{Stretch, go_together, learns_of, part_of, phrase_limit, stretch_of, stretches, with_stretch}
+use Rattle.chew_spec_editor.specs.Learning.{Stretch, go_together, learns_of, part_of, phrase_limit, stretch_of, stretches, with_stretch}
 use Rattle.chew_spec_editor.proofs.Committing.{learns_of-joined, stretches-text}
 use Rattle.chew_spec_editor.proofs.SoundPlaces.{places-sound, range-each, same-from_covers}
 use Rattle.chew_spec_editor.proofs.Stretches.{IsOver, stretches-over}

@@ -7,7 +7,7 @@ use Rattle.std.proofs.lemmas.Bool.{and_cases, and_from, and_parts, both_ways, co
 use Rattle.std.proofs.lemmas.List.{reverse-append}
 use Rattle.std.proofs.lemmas.List.Folds.{list_all-map}
 use Rattle.chew_spec_dictionary.specs.Call.{Hit}
-use Rattle.chew_spec_phrasing.specs.Combined.{is_hit_at}
+use Rattle.chew_spec_phrasing.specs.CombinedRows.{is_hit_at}
 use Rattle.chew_spec_phrasing.specs.Usable.{phrase_len}
 use Rattle.chew_spec_phrasing.proofs.Membership.{Contains-from_filter, Contains-head, Contains-tail}
 use Rattle.chew_spec_preedit.specs.Buffer.{Buffer, is_choice_of}

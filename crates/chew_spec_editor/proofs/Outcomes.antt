@@ -23,7 +23,7 @@ use Rattle.chew_spec_editor.specs.Completion.{completes, is_whole}
 use Rattle.chew_spec_editor.specs.Editor.{Editor, line_of, shown_text}
 use Rattle.chew_spec_editor.specs.Finish.{finish, note_after}
 use Rattle.chew_spec_editor.specs.Keys.{calls_asked, press, press_free, press_plain, press_selection, press_window}
-use Rattle.chew_spec_editor.specs.Learnt.{learns}
+use Rattle.chew_spec_editor.specs.Learning.{learns}
 use Rattle.chew_spec_editor.specs.Pending.{Pending, calls_of, with_buffer}
 use Rattle.chew_spec_editor.specs.PhraseKeys.{are_sounds_ahead, press_about, press_add, press_forget, press_hide}
 use Rattle.chew_spec_editor.specs.Press.{Pressed, Done, Ask, after_step, asking, bell, edit, go_to, insert, opening, press_backspace, press_char, press_delete, press_down, press_enter, press_esc, press_left, press_right, press_tab, quiet, releasing, window_place}

@@ -10,7 +10,7 @@ use Rattle.std.proofs.lemmas.List.Folds.{list_any-from_Any, list_any_none}
 use Rattle.chew_spec_syllable.specs.Row.{Row, is_row}
 use Rattle.chew_spec_dictionary.specs.Call.{Call, Hit, Reply, Rows, Learned, Full, NotThere, Hid, Frozen, Installed}
 use Rattle.chew_spec_dictionary.specs.Call as reply
-use Rattle.chew_spec_phrasing.specs.Combined.{is_hit_at}
+use Rattle.chew_spec_phrasing.specs.CombinedRows.{is_hit_at}
 use Rattle.chew_spec_phrasing.specs.Usable.{Choice, Piece}
 use Rattle.chew_spec_phrasing.proofs.CombinedSegment.{Contains-range}
 use Rattle.chew_spec_phrasing.proofs.Membership.{All-from_Contains, Contains-cases, Contains-filter, Contains-from_filter, Contains-from_map, Contains-head, Contains-map}

@@ -67,6 +67,15 @@ pub record IsAmong (before : List PlacedRun) (run : PlacedRun) (behind : List Pl
   pub front : list_all (λ p. nat_lt (suc p) run.start) (flat_map run_places before) ≡ true
   pub back : list_all (λ p. nat_le (suc (run_end run)) p) (flat_map run_places behind) ≡ true
 
+placed-least : (place : ℕ) (before : List PlacedRun) (run : PlacedRun) (behind : List PlacedRun) → are_placed place (before ++ run ∷ behind) ≡ true → place ≤ run.start
+placed-least place [] run behind e = leb-true place run.start ((and_parts (nat_le place run.start) _ e).0)
+placed-least place (first ∷ before) run behind e =
+    let starts = and_parts (nat_le place first.start) _ e in
+    let l = leb-true place first.start starts.0 in
+    let some = and_parts (nat_lt 0 (length first.codes)) (are_placed (suc (run_end first)) (before ++ run ∷ behind)) starts.1 in
+    let m = placed-least (suc (run_end first)) before run behind some.1 in
+    omega arith
+
 pub IsAmong-placed : (place : ℕ) (before : List PlacedRun) (run : PlacedRun) (behind : List PlacedRun) → are_placed place (before ++ run ∷ behind) ≡ true → IsAmong before run behind
 IsAmong-placed place [] run behind e =
     let starts = and_parts (nat_le place run.start) _ e in

@@ -10,7 +10,7 @@ use Rattle.chew_spec_syllable.specs.Row.{Row, is_row}
 use Rattle.chew_spec_dictionary.specs.Call.{Reply}
 use Rattle.chew_spec_phrasing.specs.Best.{IsBest, best_pieces}
 use Rattle.chew_spec_phrasing.specs.CanSegment.{CanSegment}
-use Rattle.chew_spec_phrasing.specs.Combined.{combined_hits}
+use Rattle.chew_spec_phrasing.specs.CombinedRows.{combined_hits}
 use Rattle.chew_spec_phrasing.specs.Usable.{Piece, phrase_len}
 use Rattle.chew_spec_phrasing.proofs.CanSegment.{IsBest-from_CanSegment}
 use Rattle.chew_spec_preedit.specs.Buffer.{Buffer}

@@ -10,7 +10,7 @@ use Rattle.chew_spec_phrasing.proofs.CombinedSegment.{Contains-range}
 use Rattle.chew_spec_phrasing.proofs.Membership.{Contains-cases, Contains-flat_map, Contains-nil}
 use Rattle.chew_spec_preedit.specs.Cell.{Cell, Sound, Symbol, is_sound}
 use Rattle.chew_spec_preedit.specs.InTurn.{is_in_turn}
-use Rattle.chew_spec_preedit.specs.Shown.{character_at, characters_from, characters_of, has_cell}
+use Rattle.chew_spec_preedit.specs.ShownText.{character_at, characters_from, characters_of, has_cell}
 use Rattle.chew_spec_editor.specs.Invariant.{covers, is_piece, piece_places}
 use Rattle.chew_spec_editor.proofs.Characters.{cells-show, drop-characters, places-drop, shows, take-characters}
 use Rattle.chew_spec_editor.proofs.ShownRows.{passes}

@@ -10,7 +10,7 @@ use Rattle.chew_spec_syllable.specs.Row.{Row, greatest_freq, is_pair, is_row}
 use Rattle.chew_spec_dictionary.specs.Call.{Hit}
 use Rattle.chew_spec_dictionary.specs.Look.{Interval, codes_at, hits_of, intervals}
 use Rattle.chew_spec_dictionary.proofs.Hits.{hit_is_row}
-use Rattle.chew_spec_phrasing.specs.Combined.{combined, combined_hits, shown_hit}
+use Rattle.chew_spec_phrasing.specs.CombinedRows.{combined, combined_hits, shown_hit}
 use Rattle.chew_spec_phrasing.specs.Usable.{HaveOwnLengths, phrase_len}
 use Rattle.chew_spec_phrasing.proofs.Combined.{Contains-combined-cases}
 use Rattle.chew_spec_phrasing.proofs.CombinedHits.{combined_hits-hits_of}

@@ -13,7 +13,7 @@ use Rattle.chew_spec_preedit.specs.Cell.{Cell, has_sound, is_cell}
 use Rattle.chew_spec_preedit.proofs.Kept.{list_all-join}
 use Rattle.chew_spec_preedit.proofs.Parts.{list_all-drop, list_all-take}
 use Rattle.chew_spec_editor.specs.Invariant.{covers, is_piece, piece_places}
-use Rattle.chew_spec_editor.specs.Learnt.{Stretch, go_together, key_at, learn_call, learns, learns_of, part_of, phrase_limit, stretch_of, stretches, with_stretch}
+use Rattle.chew_spec_editor.specs.Learning.{Stretch, go_together, key_at, learn_call, learns, learns_of, part_of, phrase_limit, stretch_of, stretches, with_stretch}
 use Rattle.chew_spec_editor.proofs.Leading.{piece-some}
 use Rattle.chew_spec_editor.proofs.SoundPlaces.{places-sound, range-all, range-each, range-joined, same-from_covers}
 use Rattle.chew_spec_editor.proofs.Texts.{AreSounds-places, IsText, IsText-append, IsText-phrase, is_character, is_pair-at, is_proper-learn, phrase_len-encoded}

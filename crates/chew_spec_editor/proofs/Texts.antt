@@ -19,7 +19,7 @@ use Rattle.chew_spec_preedit.specs.Cell.{Cell, Sound, Symbol, has_sound, is_cell
 use Rattle.chew_spec_preedit.proofs.Kept.{list_all-join}
 use Rattle.chew_spec_preedit.proofs.Parts.{list_all-drop, list_all-take}
 use Rattle.chew_spec_preedit.proofs.Places.{has_sound-within, sounds-from}
-use Rattle.chew_spec_editor.specs.Learnt.{code_in, key_at, learn_call}
+use Rattle.chew_spec_editor.specs.Learning.{code_in, key_at, learn_call}
 use Rattle.chew_spec_editor.proofs.ShownRows.{IsRow-from, passes}
 use Rattle.chew_spec_editor.proofs.SoundPlaces.{range-each}
 

@@ -6,7 +6,7 @@ use Rattle.chew_spec_layout.specs.Layout.{Layout, new_layout, shown}
 use Rattle.chew_spec_dictionary.specs.Call.{Hit}
 use Rattle.chew_spec_phrasing.specs.Usable.{Piece}
 use Rattle.chew_spec_preedit.specs.Buffer.{Buffer, empty_buffer}
-use Rattle.chew_spec_preedit.specs.Shown as preedit
+use Rattle.chew_spec_preedit.specs.ShownText as preedit
 use Rattle.chew_spec_preedit.specs.Window.{Window, on_page, pages_of}
 use Rattle.chew_spec_text.specs.Line.{Line, Note}
 use Rattle.chew_spec_editor.specs.Settings.{Settings}

@@ -4,7 +4,7 @@ use Rattle.std.specs.List.{list_any}
 use Rattle.chew_spec_syllable.specs.Row.{Row}
 use Rattle.chew_spec_dictionary.specs.Call.{Hit, Reply, Rows, Full, NotThere}
 use Rattle.chew_spec_phrasing.specs.Best.{best_pieces}
-use Rattle.chew_spec_phrasing.specs.Combined.{combined_hits}
+use Rattle.chew_spec_phrasing.specs.CombinedRows.{combined_hits}
 use Rattle.chew_spec_phrasing.specs.Usable.{Piece, phrase_len}
 use Rattle.chew_spec_preedit.specs.Buffer.{Buffer}
 use Rattle.chew_spec_preedit.specs.PlacedRun.{PlacedRun, breaks_in, choices_in, placed, run_end}

@@ -1,12 +1,12 @@
 pub mod Answers
 pub mod Alone
-pub mod Committed
+pub mod Commits
 pub mod Completion
 pub mod Editor
 pub mod Finish
 pub mod Invariant
 pub mod Keys
-pub mod Learnt
+pub mod Learning
 pub mod Pending
 pub mod Phrasings
 pub mod PhraseKeys
@@ -17,4 +17,4 @@ pub mod Settings
 pub mod Talk
 pub mod HiddenPhrases
 pub mod RunPieces
-pub mod Phrased
+pub mod BestPieces

@@ -8,7 +8,7 @@ use Rattle.chew_spec_preedit.specs.Cell.{is_sound}
 use Rattle.chew_spec_preedit.specs.Buffer.{Buffer}
 use Rattle.chew_spec_text.specs.Line.{Note, Added, Forgot, Hidden}
 use Rattle.chew_spec_editor.specs.Editor.{Editor}
-use Rattle.chew_spec_editor.specs.Learnt.{key_at}
+use Rattle.chew_spec_editor.specs.Learning.{key_at}
 use Rattle.chew_spec_editor.specs.Pending.{with_buffer}
 use Rattle.chew_spec_editor.specs.Press.{Pressed, asking, bell, learn_shown, text_at}
 

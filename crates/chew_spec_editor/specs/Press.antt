@@ -14,7 +14,7 @@ use Rattle.chew_spec_preedit.specs.Edit.{backspaced, break_toggled, can_break, d
 use Rattle.chew_spec_text.specs.Line.{Line, Quiet, Bell}
 use Rattle.chew_spec_editor.specs.Editor.{Editor, characters_of, line_of, shown_text}
 use Rattle.chew_spec_editor.specs.Finish.{finish}
-use Rattle.chew_spec_editor.specs.Learnt.{key_at, learn_call, learns}
+use Rattle.chew_spec_editor.specs.Learning.{key_at, learn_call, learns}
 use Rattle.chew_spec_editor.specs.Pending.{Pending, calls_of, with_buffer}
 
 pub data Pressed : Type 0 where

@@ -121,6 +121,17 @@ end_taken k had few =
     ap (go_on k (λ script. each_line taken (suc k) script ([] ∷ []))) (enter_taken had few)
     ∙ ap (go_on (suc k) (λ script. each_line taken (suc (suc k)) script [])) (nothing_said (with_keys (had ++ Enter ∷ [])) [] refl)
 
+-- how many keys lines have
+keys_counted : (n number : ℕ) → length (line_keys n number) ≤ 80 * n
+keys_counted zero number = omega arith
+keys_counted (suc n) number =
+    let keys : List KeyStroke = flat_map step_keys (draws_from line_steps number) in
+    let next : ℕ = number_after line_steps number in
+    let most : length keys ≤ 80 = few_keys number in
+    let rest : length (line_keys n next) ≤ 80 * n = keys_counted n next in
+    let joined : length (keys ++ line_keys n next) ≡ length keys + length (line_keys n next) = length-append keys (line_keys n next) in
+    omega arith
+
 -- all lines, one after another
 all_taken : (n number : ℕ) → 80 * suc n + 1 ≤ 65_536
     → each_line taken 1 start (all_lines (suc n) number ++ [] ∷ []) ≡ Ok (with_keys (line_keys (suc n) number ++ Enter ∷ []))

@@ -11,7 +11,7 @@ use Rattle.chew_spec_dictionary.proofs.Invariants.{after_cap}
 use Rattle.chew_spec_dictionary.proofs.Maps.{after_keeps}
 use Rattle.chew_spec_layers.specs.Mark.{Marked, mark_of, put_mark, row_of_mark}
 use Rattle.chew_spec_layers.specs.Overlay.{overlay, says_over}
-use Rattle.chew_spec_layers.specs.Touched.{tells_change, is_about, touches, touched}
+use Rattle.chew_spec_layers.specs.Touches.{tells_change, is_about, touches, touched}
 use Rattle.chew_spec_layers.specs.Layers.{Layers, Waiting, layers_of, frozen_marks, map_in, dictionary_in, noted, marked_by}
 use Rattle.chew_spec_layers.specs.Standing.{IsLayerOf, WaitsAfter, StandForMap}
 use Rattle.chew_spec_layers.proofs.Touches.{take_front, take_two, touched_second, unchanged}

@@ -13,7 +13,7 @@ use Rattle.chew_spec_dictionary.proofs.Learning.{pair_learned, gone_forgot, life
 use Rattle.chew_spec_dictionary.proofs.Hiding.{held_hidden, new_hidden, life_hidden}
 use Rattle.chew_spec_layers.specs.Mark.{Marked, Live, Grave}
 use Rattle.chew_spec_layers.specs.Overlay.{overlay}
-use Rattle.chew_spec_layers.specs.Touched.{tells_change}
+use Rattle.chew_spec_layers.specs.Touches.{tells_change}
 use Rattle.chew_spec_layers.specs.Layers.{Layers, Waiting, frozen_marks, map_in, dictionary_in, noted, marked_by, newly_frozen, frozen_by, installed_by}
 use Rattle.chew_spec_layers.specs.Standing.{IsLayerOf, WaitsAfter, StandForMap}
 use Rattle.chew_spec_layers.proofs.Touches.{about_itself}

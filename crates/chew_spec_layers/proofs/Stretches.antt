@@ -12,7 +12,7 @@ use Rattle.chew_spec_dictionary.proofs.Histories.{after_joined}
 use Rattle.chew_spec_dictionary.proofs.Maps.{after_keeps, maps_alike}
 use Rattle.chew_spec_layers.specs.Mark.{Mark, Live, Grave, Marked, is_mark_of, mark_of, put_mark, row_of_mark}
 use Rattle.chew_spec_layers.specs.Overlay.{overlay}
-use Rattle.chew_spec_layers.specs.Touched.{tells_change, is_about, changes, touches}
+use Rattle.chew_spec_layers.specs.Touches.{tells_change, is_about, changes, touches}
 use Rattle.chew_spec_layers.specs.Standing.{IsLayerOf}
 use Rattle.chew_spec_layers.proofs.Marks.{is_of_mark, of_mark, put_mark_found, put_mark_others, put_mark_keeps, mark_not_none}
 use Rattle.chew_spec_layers.proofs.Overlays.{marked_or_not, overlay_map, overlay_marked, overlay_unmarked}

@@ -9,7 +9,7 @@ use Rattle.chew_spec_dictionary.specs.Call.{Call, Look, Learn, Forget, Hide, Fre
 use Rattle.chew_spec_dictionary.specs.History.{Point, Entry, answer, after}
 use Rattle.chew_spec_dictionary.proofs.Learning.{learn_cases, by_forget, others_learned, others_forgot}
 use Rattle.chew_spec_dictionary.proofs.Hiding.{by_hide, others_hidden}
-use Rattle.chew_spec_layers.specs.Touched.{tells_change, is_about, changes, touches, touched}
+use Rattle.chew_spec_layers.specs.Touches.{tells_change, is_about, changes, touches, touched}
 
 -- one of three, grouped either way
 or_beside : (a b c d : Bool) → b ≡ c || d → a || b ≡ (a || c) || d

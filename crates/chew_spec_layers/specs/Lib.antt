@@ -4,4 +4,4 @@ pub mod Mark
 pub mod Need
 pub mod Overlay
 pub mod Standing
-pub mod Touched
+pub mod Touches

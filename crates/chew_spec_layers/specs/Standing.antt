@@ -5,7 +5,7 @@ use Rattle.chew_spec_dictionary.specs.System.{row_of}
 use Rattle.chew_spec_dictionary.specs.History.{Entry, Point, start_of, after}
 use Rattle.chew_spec_layers.specs.Layers.{Layers, Waiting, frozen_marks}
 use Rattle.chew_spec_layers.specs.Mark.{Mark, Marked, is_layer, mark_of, row_of_mark}
-use Rattle.chew_spec_layers.specs.Touched.{touches}
+use Rattle.chew_spec_layers.specs.Touches.{touches}
 
 -- the marks are those of a stretch of a history: one for each pair that it changed and no other, and each says of its
 -- pair what the map says after the stretch

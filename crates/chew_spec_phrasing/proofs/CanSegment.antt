@@ -12,7 +12,7 @@ use Rattle.chew_spec_dictionary.specs.Call.{Hit}
 use Rattle.chew_spec_dictionary.specs.Look.{Interval}
 use Rattle.chew_spec_phrasing.specs.Best.{IsBest, best_of, best_pieces}
 use Rattle.chew_spec_phrasing.specs.CanSegment.{CanSegment, cell_at, interval_of}
-use Rattle.chew_spec_phrasing.specs.Combined.{is_hit_at}
+use Rattle.chew_spec_phrasing.specs.CombinedRows.{is_hit_at}
 use Rattle.chew_spec_phrasing.specs.Segmentation.{GivesOwn, IsSegmentation}
 use Rattle.chew_spec_phrasing.specs.Usable.{Choice, Piece, choice_end, agrees, first_row, is_exactly, is_unbroken, keeps_choices, lies_in, meets, phrase_len, piece_at, piece_by_rows, piece_of_choice, piece_of_hit}
 use Rattle.chew_spec_phrasing.proofs.Best.{IsBest-from_best_of, no_segmentation-from_best_of}

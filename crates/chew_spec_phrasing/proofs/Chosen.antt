@@ -13,7 +13,7 @@ use Rattle.std.proofs.lemmas.Option.{none-some, same_Some}
 use Rattle.chew_spec_dictionary.specs.Call.{Hit}
 use Rattle.chew_spec_dictionary.specs.Look.{Interval}
 use Rattle.chew_spec_phrasing.specs.CanSegment.{CanSegment, Shows, interval_of, interval_of_piece}
-use Rattle.chew_spec_phrasing.specs.Combined.{is_hit_at}
+use Rattle.chew_spec_phrasing.specs.CombinedRows.{is_hit_at}
 use Rattle.chew_spec_phrasing.specs.Segmentation.{IsOf, IsSegmentation}
 use Rattle.chew_spec_phrasing.specs.Usable.{Choice, IsByRow, Piece, agrees, choice_end, first_row, interval_end, is_exactly, is_unbroken, keeps_choices, lies_in, meets, phrase_len, piece_at, piece_by_rows, piece_of_choice, piece_of_hit}
 use Rattle.chew_spec_phrasing.proofs.CanSegment.{find_from_Contains}

@@ -8,13 +8,13 @@ use Rattle.std.proofs.lemmas.List.Folds.{Any-from_list_any, list_any-append, lis
 use Rattle.std.proofs.lemmas.List.Kept.{AllPairs-cons, AllPairs-filter}
 use Rattle.std.proofs.lemmas.Slice.Eq.{bytes_eq-Decides}
 use Rattle.chew_spec_syllable.specs.Row.{Row, is_pair_of, no_pair_twice}
-use Rattle.chew_spec_dictionary.specs.Hidden.{is_hidden, shown_rows}
+use Rattle.chew_spec_dictionary.specs.HiddenPairs.{is_hidden, shown_rows}
 use Rattle.chew_spec_dictionary.specs.Look.{shown_cmp}
 use Rattle.chew_spec_dictionary.specs.System.{is_under, rows_under}
 use Rattle.chew_spec_dictionary.proofs.Hiding.{single_shown}
 use Rattle.chew_spec_dictionary.proofs.Order.{order_sorted}
 use Rattle.chew_spec_dictionary.proofs.Rows.{shown_total, under_key}
-use Rattle.chew_spec_phrasing.specs.Combined.{combined, has_phrase}
+use Rattle.chew_spec_phrasing.specs.CombinedRows.{combined, has_phrase}
 use Rattle.chew_spec_phrasing.proofs.InOrder.{AllPairs-append, AllPairs-in_order, AllPairs-nil, Contains-from_in_order, Contains-in_order, list_any-in_order}
 use Rattle.chew_spec_phrasing.proofs.Membership.{All-from_Contains, Contains-filter, Contains-from_filter, Contains-head, Contains-tail}
 

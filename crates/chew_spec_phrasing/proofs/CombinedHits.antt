@@ -7,14 +7,14 @@ use Rattle.std.proofs.lemmas.List.Elements.{All-append, All-head, All-map, All-t
 use Rattle.std.proofs.lemmas.List.Sorted.{All-permutation}
 use Rattle.chew_spec_syllable.specs.Row.{Row}
 use Rattle.chew_spec_dictionary.specs.Call.{Hit}
-use Rattle.chew_spec_dictionary.specs.Hidden.{can_hide, hidden_time, is_hidden, shown_rows}
+use Rattle.chew_spec_dictionary.specs.HiddenPairs.{can_hide, hidden_time, is_hidden, shown_rows}
 use Rattle.chew_spec_dictionary.specs.Look.{Interval, codes_at, hit_of, hits_of, intervals, shown_cmp}
 use Rattle.chew_spec_dictionary.specs.Order.{in_order}
 use Rattle.chew_spec_dictionary.specs.System.{rows_under}
 use Rattle.chew_spec_dictionary.proofs.Order.{order_permutes, order_sorted}
 use Rattle.chew_spec_dictionary.proofs.Rows.{shown_hit_total, under_key}
 use Rattle.chew_spec_dictionary.proofs.Sorting.{in_order_map}
-use Rattle.chew_spec_phrasing.specs.Combined.{combined, combined_hits, found_rows, has_phrase, row_of_hit, shown_hit_cmp, shown_hit}
+use Rattle.chew_spec_phrasing.specs.CombinedRows.{combined, combined_hits, found_rows, has_phrase, row_of_hit, shown_hit_cmp, shown_hit}
 use Rattle.chew_spec_phrasing.proofs.Combined.{bytes_eq_from_same}
 use Rattle.chew_spec_phrasing.proofs.InOrder.{list_any-in_order}
 use Rattle.chew_spec_phrasing.proofs.Membership.{All-from_Contains}

@@ -11,7 +11,7 @@ use Rattle.chew_spec_dictionary.specs.Call.{Hit}
 use Rattle.chew_spec_dictionary.specs.Look.{Interval, codes_at, intervals}
 use Rattle.chew_spec_dictionary.specs.System.{has_single, is_under, rows_under}
 use Rattle.chew_spec_phrasing.specs.CanSegment.{CanSegment, cell_at, interval_of}
-use Rattle.chew_spec_phrasing.specs.Combined.{combined, combined_hits, found_rows, has_phrase, is_hit_at, row_of_hit, shown_hit}
+use Rattle.chew_spec_phrasing.specs.CombinedRows.{combined, combined_hits, found_rows, has_phrase, is_hit_at, row_of_hit, shown_hit}
 use Rattle.chew_spec_phrasing.specs.Usable.{Choice, HaveOwnLengths, choice_end, meets, phrase_len}
 use Rattle.chew_spec_phrasing.proofs.Combined.{Contains-combined-cases, all_shown, has_phrase-combined, has_phrase-from_Contains}
 use Rattle.chew_spec_phrasing.proofs.Intervals.{IsIn, IsIn-from_intervals}

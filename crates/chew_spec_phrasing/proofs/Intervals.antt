@@ -8,7 +8,7 @@ use Rattle.std.proofs.lemmas.List.Elements.{filter-append}
 use Rattle.chew_spec_syllable.specs.Row.{Row}
 use Rattle.chew_spec_dictionary.specs.Look.{Interval, hit_of, intervals}
 use Rattle.chew_spec_dictionary.proofs.Hits.{listed_within}
-use Rattle.chew_spec_phrasing.specs.Combined.{is_hit_at}
+use Rattle.chew_spec_phrasing.specs.CombinedRows.{is_hit_at}
 use Rattle.chew_spec_phrasing.proofs.Membership.{Contains-head, Contains-tail}
 
 -- pieces that are alike at each element give one list

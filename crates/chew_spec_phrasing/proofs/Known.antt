@@ -6,7 +6,7 @@ use Rattle.std.proofs.lemmas.List.Elements.{All-cons, All-nil}
 use Rattle.std.proofs.lemmas.List.Kept.{AllPairs-cons}
 use Rattle.chew_spec_dictionary.specs.Call.{Hit}
 use Rattle.chew_spec_phrasing.specs.CanSegment.{CanSegment, cell_at, interval_of}
-use Rattle.chew_spec_phrasing.specs.Combined.{is_hit_at}
+use Rattle.chew_spec_phrasing.specs.CombinedRows.{is_hit_at}
 use Rattle.chew_spec_phrasing.specs.Known.{attempt, be, choice, five_hits, hit, plan, survey}
 use Rattle.chew_spec_phrasing.specs.Usable.{Choice, choice_end, meets, phrase_len}
 use Rattle.chew_spec_phrasing.proofs.InOrder.{AllPairs-nil}

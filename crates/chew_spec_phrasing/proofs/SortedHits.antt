@@ -12,14 +12,14 @@ use Rattle.std.proofs.lemmas.List.Sorted.{All-permutation}
 use Rattle.std.proofs.lemmas.Map.Text.{is_eq-slice_cmp}
 use Rattle.chew_spec_syllable.specs.Row.{Row}
 use Rattle.chew_spec_dictionary.specs.Call.{Hit}
-use Rattle.chew_spec_dictionary.specs.Hidden.{can_hide, hidden_time, is_hidden, shown_rows}
+use Rattle.chew_spec_dictionary.specs.HiddenPairs.{can_hide, hidden_time, is_hidden, shown_rows}
 use Rattle.chew_spec_dictionary.specs.Look.{Interval, codes_at, shown_cmp}
 use Rattle.chew_spec_dictionary.specs.Order.{in_order}
 use Rattle.chew_spec_dictionary.specs.System.{phrase_cmp, rows_of, rows_under}
 use Rattle.chew_spec_dictionary.proofs.Order.{order_permutes}
 use Rattle.chew_spec_dictionary.proofs.Rows.{shown_hit_total, then_equal}
 use Rattle.chew_spec_dictionary.proofs.Sorting.{in_order_map}
-use Rattle.chew_spec_phrasing.specs.Combined.{as_shown, combined, found_rows, has_phrase, is_free_of, is_hit_at, is_shown, row_of_hit, shown_hit, shown_hit_cmp, unsorted_hits}
+use Rattle.chew_spec_phrasing.specs.CombinedRows.{as_shown, combined, found_rows, has_phrase, is_free_of, is_hit_at, is_shown, row_of_hit, shown_hit, shown_hit_cmp, unsorted_hits}
 use Rattle.chew_spec_phrasing.proofs.Combined.{bytes_eq_from_same, same_from_bytes_eq}
 use Rattle.chew_spec_phrasing.proofs.Sorted.{IsAlike, IsAlike-append, IsAlike-filter, IsAlike-from_IsPermutation, IsAlike-map, IsAlike-trans, in_order_from_sorted}
 

@@ -7,7 +7,7 @@ use Rattle.std.proofs.lemmas.List.Elements.{All-cons, All-contains, All-nil}
 use Rattle.std.proofs.lemmas.Option.{none-some, same_Some}
 use Rattle.chew_spec_dictionary.specs.Call.{Hit}
 use Rattle.chew_spec_dictionary.specs.Look.{Interval}
-use Rattle.chew_spec_phrasing.specs.Combined.{is_hit_at}
+use Rattle.chew_spec_phrasing.specs.CombinedRows.{is_hit_at}
 use Rattle.chew_spec_phrasing.specs.Usable.{Choice, HaveOwnLengths, IsFirst, Piece, first_row, is_exactly, is_unbroken, keeps_choices, phrase_len, piece_at, piece_by_rows, piece_of_choice, piece_of_hit}
 use Rattle.chew_spec_phrasing.specs.Segmentation.{GivesOwn, IsOf}
 use Rattle.chew_spec_phrasing.proofs.Membership.{Contains-head, Contains-tail}

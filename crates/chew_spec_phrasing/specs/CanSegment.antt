@@ -3,7 +3,7 @@ use Rattle.std.specs.Prelude.{◌≡◌, ℕ, ◌<◌, ◌≤◌, true, false, L
 use Rattle.std.specs.List.{list_any}
 use Rattle.chew_spec_dictionary.specs.Call.{Hit}
 use Rattle.chew_spec_dictionary.specs.Look.{Interval}
-use Rattle.chew_spec_phrasing.specs.Combined.{is_hit_at}
+use Rattle.chew_spec_phrasing.specs.CombinedRows.{is_hit_at}
 use Rattle.chew_spec_phrasing.specs.Usable.{Choice, HaveOwnLengths, Piece, agrees, choice_end, lies_in, meets, phrase_len}
 
 -- the interval of one cell, that of a choice's cells and that of a piece's

@@ -2,7 +2,7 @@
 use Rattle.std.specs.Prelude.{ℕ, false, zero, suc, List, [], ◌∷◌, ◌++◌}
 use Rattle.chew_spec_syllable.specs.Row.{Row}
 use Rattle.chew_spec_dictionary.specs.Call.{Hit}
-use Rattle.chew_spec_dictionary.specs.Hidden.{hidden_time}
+use Rattle.chew_spec_dictionary.specs.HiddenPairs.{hidden_time}
 use Rattle.chew_spec_phrasing.specs.Usable.{Choice, Piece}
 
 -- 測, 策, 是 and 試, in UTF-8

@@ -1,5 +1,5 @@
 pub mod Best
-pub mod Combined
+pub mod CombinedRows
 pub mod Score
 pub mod Segmentation
 pub mod Usable

@@ -8,7 +8,7 @@ use Rattle.chew_spec_phrasing.specs.Usable.{Piece, phrase_len}
 use Rattle.chew_spec_phrasing.proofs.Membership.{Contains-cases, Contains-nil}
 use Rattle.chew_spec_preedit.specs.InTurn.{is_in_turn}
 use Rattle.chew_spec_preedit.specs.Cell.{Cell, Sound, Symbol, has_sound}
-use Rattle.chew_spec_preedit.specs.Shown.{character_at, characters_from, characters_of, has_cell}
+use Rattle.chew_spec_preedit.specs.ShownText.{character_at, characters_from, characters_of, has_cell}
 use Rattle.chew_spec_preedit.proofs.Kept.{list_all-at}
 
 -- each syllable's cell has a character of a piece

@@ -4,5 +4,5 @@ pub mod Edit
 pub mod InTurn
 pub mod Known
 pub mod PlacedRun
-pub mod Shown
+pub mod ShownText
 pub mod Window

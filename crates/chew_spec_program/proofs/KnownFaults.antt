@@ -18,7 +18,7 @@ use Rattle.chew_spec_image.specs.Sample.{one_row}
 use Rattle.chew_spec_text.specs.Line.{line_text}
 use Rattle.chew_spec_text.specs.Sample.{bytes_of}
 use Rattle.chew_spec_layers.specs.Need.{Fresh}
-use Rattle.chew_spec_layers.specs.Touched.{touched}
+use Rattle.chew_spec_layers.specs.Touches.{touched}
 use Rattle.chew_spec_slots.specs.Reading.{saved_in}
 use Rattle.chew_spec_slots.specs.Recovery.{Damaged, Recovered, Recovery, TooLarge, recovered}
 use Rattle.chew_spec_slots.specs.Sample.{one_row_saved}
@@ -38,7 +38,7 @@ use Rattle.chew_spec_session.specs.Context.{Basis, Handles}
 use Rattle.chew_spec_session.specs.LastRounds.{AreRounds}
 use Rattle.chew_spec_session.specs.Session.{Ended, IsOneHistory, IsSession}
 use Rattle.chew_spec_session.proofs.Seqs.{count-from, one-spent}
-use Rattle.chew_spec_shared.specs.Needed.{IsNeed}
+use Rattle.chew_spec_shared.specs.Needs.{IsNeed}
 use Rattle.chew_spec_program.specs.Crash.{BeginsWith, IsWholeOnDisk}
 use Rattle.chew_spec_program.specs.Opening.{Inputs, start_from}
 use Rattle.chew_spec_program.specs.Sample.{five_basis, learn_by, look_by}

@@ -16,7 +16,7 @@ use Rattle.chew_spec_image.specs.Sample.{one_row}
 use Rattle.chew_spec_text.specs.Line.{Line, Quiet, line_text}
 use Rattle.chew_spec_text.specs.Sample.{bytes_of}
 use Rattle.chew_spec_layers.specs.Need.{Fresh}
-use Rattle.chew_spec_layers.specs.Touched.{touched}
+use Rattle.chew_spec_layers.specs.Touches.{touched}
 use Rattle.chew_spec_slots.specs.Reading.{saved_in}
 use Rattle.chew_spec_slots.specs.Recovery.{Recovered, recovered}
 use Rattle.chew_spec_slots.specs.Sample.{one_row_plain_slot, one_row_saved}
@@ -33,7 +33,7 @@ use Rattle.chew_spec_session.specs.Context.{Handles}
 use Rattle.chew_spec_session.specs.LastRounds.{AreRounds}
 use Rattle.chew_spec_session.specs.Session.{Ended, IsOneHistory, IsSession}
 use Rattle.chew_spec_session.proofs.Seqs.{count-from}
-use Rattle.chew_spec_shared.specs.Needed.{IsNeed, NoneTouched}
+use Rattle.chew_spec_shared.specs.Needs.{IsNeed, NoneTouched}
 use Rattle.chew_spec_program.specs.Sample.{first_lines, five_basis, learn_by, look_by}
 use Rattle.chew_spec_program.specs.SampleRun.{five_calls, five_disk, five_journal, five_keys, five_rounds}
 

@@ -10,7 +10,7 @@ use Rattle.chew_spec_dictionary.specs.Dictionary.{learn}
 use Rattle.chew_spec_dictionary.specs.Growth.{reply_at}
 use Rattle.chew_spec_dictionary.specs.History.{Entry, start_of}
 use Rattle.chew_spec_image.specs.Sample.{one_row}
-use Rattle.chew_spec_layers.specs.Touched.{touched}
+use Rattle.chew_spec_layers.specs.Touches.{touched}
 use Rattle.chew_spec_rounds.specs.Front.{IsNumber}
 use Rattle.chew_spec_rounds.specs.Known.{failed_once, learns, nothing}
 use Rattle.chew_spec_rounds.proofs.Fronts.{none-some}

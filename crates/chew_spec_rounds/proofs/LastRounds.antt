@@ -10,7 +10,7 @@ use Rattle.chew_spec_dictionary.specs.Dictionary.{Dictionary}
 use Rattle.chew_spec_dictionary.specs.History.{Entry, Point, Shape, after, answer, calls_of, is_legal, own, start_of}
 use Rattle.chew_spec_dictionary.proofs.Histories.{after_joined, place_after}
 use Rattle.chew_spec_dictionary.proofs.Legal.{waits-then}
-use Rattle.chew_spec_layers.specs.Touched.{changes, is_about, tells_change, touched, touches}
+use Rattle.chew_spec_layers.specs.Touches.{changes, is_about, tells_change, touched, touches}
 use Rattle.chew_spec_layers.proofs.Touches.{about_itself, touched_second, unchanged}
 use Rattle.chew_spec_slots.specs.Fits.{RecoversTo}
 use Rattle.chew_spec_slots.specs.Recovery.{Recovered}

@@ -11,7 +11,7 @@ use Rattle.chew_spec_slots.specs.Keep.{Keep, acknowledged_state, left_state}
 use Rattle.chew_spec_slots.specs.Recovery.{Recovered}
 use Rattle.chew_spec_slots.specs.Slot.{Checkpoint, Saved}
 use Rattle.chew_spec_slots.specs.Steps.{FillsBody, LiftsGate, ShutsGate}
-use Rattle.chew_spec_rounds.specs.Written.{WritesCheckpoint}
+use Rattle.chew_spec_rounds.specs.WriteSteps.{WritesCheckpoint}
 use Rattle.chew_spec_rounds.proofs.InStep.{if-none}
 
 -- a stretch of moments after another

@@ -17,7 +17,7 @@ use Rattle.chew_spec_slots.specs.Slot.{Checkpoint, Saved as SavedSlot}
 use Rattle.chew_spec_rounds.specs.Front.{RecoversToEither, RecoversToFront, front_checkpoint, shape_after}
 use Rattle.chew_spec_rounds.specs.InStep.{IsInStep}
 use Rattle.chew_spec_rounds.specs.Round.{DiskFault, IsRound, Saved}
-use Rattle.chew_spec_rounds.specs.Written.{WritesCheckpoint}
+use Rattle.chew_spec_rounds.specs.WriteSteps.{WritesCheckpoint}
 use Rattle.chew_spec_rounds.proofs.Floors.{recovers-grown}
 use Rattle.chew_spec_rounds.proofs.Fronts.{front-same, legal-front, legal-rest}
 use Rattle.chew_spec_rounds.proofs.InStep.{Holds, either-of, if-none, if-some, if-some-weaker, in-step-grown, round-holds, some-of, step-leaves}

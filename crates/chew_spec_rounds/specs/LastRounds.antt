@@ -2,7 +2,7 @@
 use Rattle.std.specs.Prelude.{◌≡◌, ℕ, false, List, length, None}
 use Rattle.chew_spec_dictionary.specs.Dictionary.{Dictionary}
 use Rattle.chew_spec_dictionary.specs.History.{Entry, start_of}
-use Rattle.chew_spec_layers.specs.Touched.{touched}
+use Rattle.chew_spec_layers.specs.Touches.{touched}
 use Rattle.chew_spec_rounds.specs.Front.{shape_after}
 
 -- no snapshot waits, and no entry since the installed ones changed a pair

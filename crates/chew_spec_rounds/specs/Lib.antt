@@ -5,4 +5,4 @@ pub mod LastRounds
 pub mod Round
 pub mod Seq
 pub mod Session
-pub mod Written
+pub mod WriteSteps

@@ -10,8 +10,8 @@ use Rattle.chew_spec_dictionary.specs.Dictionary.{Dictionary, learn}
 use Rattle.chew_spec_dictionary.specs.History.{Entry, start_of}
 use Rattle.chew_spec_image.specs.Sample.{one_row}
 use Rattle.chew_spec_layers.specs.Need.{Fresh, Waiting}
-use Rattle.chew_spec_layers.specs.Touched.{touched}
-use Rattle.chew_spec_shared.specs.Needed.{IsNeed, NoneTouched, SomeTouched}
+use Rattle.chew_spec_layers.specs.Touches.{touched}
+use Rattle.chew_spec_shared.specs.Needs.{IsNeed, NoneTouched, SomeTouched}
 use Rattle.chew_spec_shared.specs.Snapshot.{waiting_after}
 use Rattle.chew_spec_rounds.specs.Known.{by_keeper, failed_once, learns, learnt_between, looks, nothing}
 use Rattle.chew_spec_rounds.specs.Round.{DiskFault, NoMemory, Round, Saved, SeqSpent}

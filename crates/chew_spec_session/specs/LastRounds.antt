@@ -3,7 +3,7 @@ use Rattle.std.specs.Prelude.{◌≡◌, ◌⊎◌, ℕ, Bool, true, false, List
 use Rattle.chew_spec_dictionary.specs.Dictionary.{Dictionary}
 use Rattle.chew_spec_dictionary.specs.History.{Entry, calls_of}
 use Rattle.chew_spec_layers.specs.Need.{Waiting, Fresh, Nothing}
-use Rattle.chew_spec_shared.specs.Needed.{IsNeed}
+use Rattle.chew_spec_shared.specs.Needs.{IsNeed}
 use Rattle.chew_spec_rounds.specs.Round.{AreKeepersCalls, DiskFault, KeepersCalls, NoMemory, Round, Saved, SeqSpent}
 
 -- from one history to a longer one the keeper made the calls of a round, and nobody else made any

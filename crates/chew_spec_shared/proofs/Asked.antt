@@ -7,10 +7,10 @@ use Rattle.chew_spec_dictionary.proofs.Growing.{front-over, made-over, made-own,
 use Rattle.chew_spec_dictionary.proofs.Histories.{own_joined}
 use Rattle.chew_spec_dictionary.proofs.Invariants.{replies_counted}
 use Rattle.chew_spec_cell.specs.Pass.{Pass}
-use Rattle.chew_spec_cell.specs.Seen.{HasSeen}
+use Rattle.chew_spec_cell.specs.Sight.{HasSeen}
 use Rattle.chew_spec_cell.proofs.Fronts.{nothing_long}
 use Rattle.chew_spec_cell.proofs.Sights.{one-own, seen-front, seen-own}
-use Rattle.chew_spec_shared.specs.Asked.{Asked}
+use Rattle.chew_spec_shared.specs.SharedCalls.{Asked}
 
 -- where only others made entries, this number made no call and got no reply
 pub others-made : (start : Point) (who : ℕ) (seen between : List Entry) → HasSeen who seen between → Made start seen between who [] []

@@ -11,11 +11,11 @@ use Rattle.chew_spec_layers.specs.Mark.{Marked, mark_of}
 use Rattle.chew_spec_layers.specs.Need.{Need, Waiting, Fresh, Nothing, need_by, need_of}
 use Rattle.chew_spec_layers.specs.Overlay.{overlay}
 use Rattle.chew_spec_layers.specs.Standing.{StandForMap}
-use Rattle.chew_spec_layers.specs.Touched.{touched}
+use Rattle.chew_spec_layers.specs.Touches.{touched}
 use Rattle.chew_spec_layers.proofs.Marks.{is_of_mark, mark_first}
 use Rattle.chew_spec_layers.proofs.Standings.{base_held, fresh_pairs, frozen_held, frozen_life, frozen_pairs}
 use Rattle.chew_spec_layers.proofs.Steps.{installed_number, waiting_number}
-use Rattle.chew_spec_shared.specs.Needed.{IsNeed}
+use Rattle.chew_spec_shared.specs.Needs.{IsNeed}
 use Rattle.chew_spec_shared.specs.Snapshot.{IsMerge, IsSnapshot, dictionary_at, installed_after, waiting_after}
 
 abbrev number_in : Option parts.Waiting → Option ℕ

@@ -4,7 +4,7 @@ use Rattle.std.proofs.lemmas.Bool.{true≢false}
 use Rattle.chew_spec_dictionary.specs.Dictionary.{Dictionary}
 use Rattle.chew_spec_dictionary.specs.History.{Entry}
 use Rattle.chew_spec_layers.specs.Need.{Need, Waiting, Fresh, Nothing}
-use Rattle.chew_spec_shared.specs.Needed.{IsNeed, NoneTouched, SomeTouched}
+use Rattle.chew_spec_shared.specs.Needs.{IsNeed, NoneTouched, SomeTouched}
 use Rattle.chew_spec_shared.specs.Snapshot.{waiting_after}
 
 module _ (start : Dictionary) (seen : List Entry) where

@@ -11,7 +11,7 @@ use Rattle.chew_spec_dictionary.proofs.Legal.{users-entries}
 use Rattle.chew_spec_dictionary.proofs.Shapes.{waiting_between}
 use Rattle.chew_spec_layers.specs.Layers.{Waiting}
 use Rattle.chew_spec_layers.specs.Overlay.{overlay}
-use Rattle.chew_spec_cell.specs.Seen.{HasSeen}
+use Rattle.chew_spec_cell.specs.Sight.{HasSeen}
 use Rattle.chew_spec_shared.specs.Snapshot.{IsMerge, IsSnapshot, dictionary_at, installed_after, waiting_after}
 
 -- a call that is none of the keeper's changes no shape

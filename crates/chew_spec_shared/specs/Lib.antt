@@ -1,4 +1,4 @@
-pub mod Asked
+pub mod SharedCalls
 pub mod Known
-pub mod Needed
+pub mod Needs
 pub mod Snapshot

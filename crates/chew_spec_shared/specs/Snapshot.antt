@@ -6,7 +6,7 @@ use Rattle.chew_spec_dictionary.specs.History.{Entry, after, start_of}
 use Rattle.chew_spec_layers.specs.Layers.{Waiting}
 use Rattle.chew_spec_layers.specs.Mark.{mark_of}
 use Rattle.chew_spec_layers.specs.Overlay.{overlay}
-use Rattle.chew_spec_layers.specs.Touched.{touched}
+use Rattle.chew_spec_layers.specs.Touches.{touched}
 
 -- the number that waits after these entries, if any, and the number of those that the base has
 abbrev pub waiting_after : Dictionary → List Entry → Option ℕ

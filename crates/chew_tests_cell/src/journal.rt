@@ -1,6 +1,6 @@
 ghost use Rattle.std.specs.Prelude.{◌≡◌, [], map};
 ghost use Rattle.chew_plain.specs.Call.{entry_of};
-ghost use Rattle.chew_spec_cell.specs.Seen.{IsTurn};
+ghost use Rattle.chew_spec_cell.specs.Sight.{IsTurn};
 
 use chew_cell::Chronicle;
 use chew_plain::Entry;

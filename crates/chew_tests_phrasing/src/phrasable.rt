@@ -3,7 +3,7 @@
 ghost use Rattle.std.specs.Prelude.{◌≡◌, ◌==◌, ◌<◌, ◌≤◌, ℕ, AllPairs, IsTrue, false, nat_le, nat_lt, true};
 ghost use Rattle.std.specs.List.{list_all, list_any};
 ghost use Rattle.chew_spec_phrasing.specs.CanSegment.{CanSegment, cell_at, interval_of};
-ghost use Rattle.chew_spec_phrasing.specs.Combined.{is_hit_at};
+ghost use Rattle.chew_spec_phrasing.specs.CombinedRows.{is_hit_at};
 ghost use Rattle.chew_spec_phrasing.specs.Usable.{choice_end, meets, phrase_len};
 
 use chew_phrasing::Choice;

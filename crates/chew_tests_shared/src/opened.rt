@@ -1,7 +1,7 @@
 //! The empty map, shared between a keeper and two contexts.
 
 ghost use Rattle.std.specs.Prelude.{◌≡◌, ◌≤◌, IfOk};
-ghost use Rattle.chew_spec_shared.specs.Asked.{IsOf};
+ghost use Rattle.chew_spec_shared.specs.SharedCalls.{IsOf};
 
 use chew_cell::Pass;
 use chew_layers::Layers;

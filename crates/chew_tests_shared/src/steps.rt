@@ -2,7 +2,7 @@
 
 ghost use Rattle.std.specs.Prelude.{◌≡◌, ◌≢◌, ◌≤◌, IsTrue, length};
 ghost use Rattle.chew_spec_syllable.specs.Row.{is_pair};
-ghost use Rattle.chew_spec_shared.specs.Asked.{IsOf};
+ghost use Rattle.chew_spec_shared.specs.SharedCalls.{IsOf};
 
 use crate::looks::{Place, look};
 use crate::replies::{Outcome, is_learned, is_nothing, is_one_hit, is_outcome};

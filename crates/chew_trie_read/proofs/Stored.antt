@@ -17,7 +17,7 @@ use Rattle.chew_spec_image.specs.Reading.{counts_in, image_place, rows_in, rows_
 use Rattle.chew_spec_image.proofs.Bounds.{node_count_few, row_in}
 use Rattle.chew_spec_image.proofs.Unique.{IsRead, is_read, place_none}
 use Rattle.chew_trie_read.specs.Search.{IsNode}
-use Rattle.chew_trie_read.specs.Stored.{IsStored}
+use Rattle.chew_trie_read.specs.ImageBytes.{IsStored}
 use Rattle.chew_trie_read.proofs.Places.{in_get, part_of, parts_within}
 
 -- what was read of such bytes

@@ -1,4 +1,4 @@
 pub mod Rest
 pub mod Search
 pub mod Start
-pub mod Stored
+pub mod ImageBytes

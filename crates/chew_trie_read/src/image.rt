@@ -25,7 +25,7 @@ impl<'a> Model for Image<'a> {
     ghost use Rattle.std.specs.Prelude.{List};
     ghost use Rattle.chew_spec_syllable.specs.Row.{Row};
     ghost use Rattle.chew_spec_image.specs.Reading.{rows_in};
-    ghost use Rattle.chew_trie_read.specs.Stored.{IsStored};
+    ghost use Rattle.chew_trie_read.specs.ImageBytes.{IsStored};
 
     ghost Value = { List Row };
 

@@ -11,7 +11,7 @@ use Rattle.chew_spec_program.specs.Output.{contexts_from, rounds_from, traced}
 use Rattle.chew_spec_program.specs.Run.{Prints, done_status, end_of}
 use Rattle.chew_spec_program.specs.Writing.{Sunk, Writes, sunk}
 use Rattle.chew_spec_program.proofs.Writings.{writes-ended, writes-joined}
-use Rattle.chewing_cli.specs.Printed.{PrintsEntries}
+use Rattle.chewing_cli.specs.PrintedLines.{PrintsEntries}
 
 front-itself : {X : Type 0} (xs : List X) → IsFront xs xs
 front-itself xs = record { rest = []; joined = sym (append-nil xs) }

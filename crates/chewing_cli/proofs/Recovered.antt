@@ -17,7 +17,7 @@ use Rattle.chew_spec_program.specs.Opening.{found_or_refusal}
 use Rattle.chew_spec_program.specs.Refusal.{Refusal}
 use Rattle.chew_spec_program.specs.Slots.{IsUnwritten, Slots, SparesDisk, kept, slots_of}
 use Rattle.chew_slots.specs.Answers.{AreTold, TellsRefusal, disk_failed}
-use Rattle.chew_slots.specs.Untouched.{IsUntouched}
+use Rattle.chew_slots.specs.ReadOnly.{IsUntouched}
 use Rattle.chew_slots.specs.declared.fault.SlotFault.{SlotFault}
 use Rattle.chew_slots.specs.declared.fault.SlotFault.TheVariants.{DiskFault, TooLarge, Damaged, NoMemory}
 use Rattle.chew_slots.specs.declared.recovery.Found.{Found}

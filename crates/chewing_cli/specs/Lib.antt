@@ -1,6 +1,6 @@
-pub mod Done
+pub mod RunEnd
 pub mod Opens
-pub mod Printed
+pub mod PrintedLines
 pub mod Refusals
 pub mod Runs
 pub mod Traces

@@ -19,7 +19,7 @@ use Rattle.chew_spec_program.specs.Run.{Ended, IsRefused, IsRun, Outside}
 use Rattle.chew_spec_program.specs.Slots.{CountsFaults, Kept}
 use Rattle.chew_spec_program.specs.Writing.{Sunk}
 use Rattle.chew_session.specs.Saving.{IsUntouched}
-use Rattle.chewing_cli.specs.Printed.{Finishes}
+use Rattle.chewing_cli.specs.PrintedLines.{Finishes}
 
 -- what a run stands on that was opened: settings in their ranges, rows of the user's dictionary, and a script within its limits
 pub record MayRun (inputs : Inputs) : Type 0 where

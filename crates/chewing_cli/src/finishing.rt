@@ -7,8 +7,8 @@ ghost use Rattle.chew_spec_program.specs.Writing.{sunk};
 ghost use Rattle.chew_plain.specs.Call.{entry_of};
 ghost use Rattle.chew_checkpoint.specs.Answers.{round_of};
 ghost use Rattle.chew_session.specs.Answers.{ended_of as session_of};
-ghost use Rattle.chewing_cli.specs.Done.{ended_of};
-ghost use Rattle.chewing_cli.specs.Printed.{Finishes, PrintsEntries};
+ghost use Rattle.chewing_cli.specs.RunEnd.{ended_of};
+ghost use Rattle.chewing_cli.specs.PrintedLines.{Finishes, PrintsEntries};
 ghost use Rattle.chewing_cli.specs.Traces.{was_cut, was_failed};
 
 use crate::done::Done;

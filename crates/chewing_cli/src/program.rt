@@ -4,7 +4,7 @@ ghost use Rattle.chew_spec_program.specs.Command.{is_run_command};
 ghost use Rattle.chew_spec_program.specs.Reading.{watched};
 ghost use Rattle.chew_spec_program.specs.Slots.{kept};
 ghost use Rattle.chew_spec_program.specs.Writing.{sunk};
-ghost use Rattle.chewing_cli.specs.Done.{ended_of};
+ghost use Rattle.chewing_cli.specs.RunEnd.{ended_of};
 ghost use Rattle.chewing_cli.specs.Runs.{IsKeptRun};
 
 use crate::done::Done;

@@ -13,7 +13,7 @@ ghost use Rattle.chew_checkpoint.specs.Answers.{round_of};
 ghost use Rattle.chew_session.specs.Answers.{ended_of as session_of};
 ghost use Rattle.chew_session.specs.Crew.{MayType, basis_of, keys_of_all};
 ghost use Rattle.chew_session.specs.Saving.{IsUntouched};
-ghost use Rattle.chewing_cli.specs.Done.{ended_of};
+ghost use Rattle.chewing_cli.specs.RunEnd.{ended_of};
 ghost use Rattle.chewing_cli.specs.Opens.{inputs_of, rows_of};
 ghost use Rattle.chewing_cli.specs.Runs.{EndsOpened, MayRun};
 

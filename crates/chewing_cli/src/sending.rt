@@ -3,7 +3,7 @@ ghost use Rattle.chew_spec_program.specs.Output.{answer_words, contexts_from, he
 ghost use Rattle.chew_spec_program.specs.Run.{IsRefused};
 ghost use Rattle.chew_spec_program.specs.Writing.{Writes, sunk};
 ghost use Rattle.chew_checkpoint.specs.Answers.{round_of};
-ghost use Rattle.chewing_cli.specs.Done.{ended_of};
+ghost use Rattle.chewing_cli.specs.RunEnd.{ended_of};
 ghost use Rattle.chewing_cli.specs.Refusals.{kind_of};
 
 use crate::done::Done;

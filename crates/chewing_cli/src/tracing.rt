@@ -1,7 +1,7 @@
 ghost use Rattle.std.specs.Prelude.{[], map};
 ghost use Rattle.chew_spec_program.specs.Writing.{sunk};
 ghost use Rattle.chew_plain.specs.Call.{entry_of};
-ghost use Rattle.chewing_cli.specs.Printed.{PrintsEntries};
+ghost use Rattle.chewing_cli.specs.PrintedLines.{PrintsEntries};
 ghost use Rattle.chewing_cli.specs.Traces.{was_cut, was_failed};
 
 use crate::sending::send;

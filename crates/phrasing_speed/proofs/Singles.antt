@@ -10,7 +10,7 @@ use Rattle.chew_spec_syllable.specs.Row.{Row, greatest_freq, is_pair, is_row}
 use Rattle.chew_spec_dictionary.specs.Call.{Hit, is_hit}
 use Rattle.chew_spec_dictionary.specs.System.{has_single}
 use Rattle.chew_spec_phrasing.specs.CanSegment.{CanSegment, interval_of}
-use Rattle.chew_spec_phrasing.specs.Combined.{combined_hits}
+use Rattle.chew_spec_phrasing.specs.CombinedRows.{combined_hits}
 use Rattle.chew_spec_phrasing.specs.Usable.{choice_end, meets, phrase_len}
 use Rattle.chew_spec_phrasing.proofs.Chosen.{passes_from_list_all}
 use Rattle.chew_spec_phrasing.proofs.CombinedSegment.{CanSegment-combined_hits}

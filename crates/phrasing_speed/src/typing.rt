@@ -2,7 +2,7 @@ ghost use Rattle.std.specs.Prelude.{◌≡◌, IsTrue, [], length};
 ghost use Rattle.std.specs.List.{list_all};
 ghost use Rattle.chew_spec_dictionary.specs.Call.{is_hit};
 ghost use Rattle.chew_spec_phrasing.specs.CanSegment.{CanSegment};
-ghost use Rattle.chew_spec_phrasing.specs.Combined.{combined_hits};
+ghost use Rattle.chew_spec_phrasing.specs.CombinedRows.{combined_hits};
 
 use crate::figures::Figures;
 use chew_layouts::{Kind, Layout};

@@ -1,7 +1,7 @@
 //! What each number was told.
 
 ghost use Rattle.std.specs.Prelude.{◌≡◌, All, IfOk};
-ghost use Rattle.chew_spec_shared.specs.Asked.{IsOf};
+ghost use Rattle.chew_spec_shared.specs.SharedCalls.{IsOf};
 
 use crate::contexts::Told;
 use crate::failure::Failure;

@@ -1,7 +1,7 @@
 //! What a keeper does, round by round.
 
 ghost use Rattle.std.specs.Prelude.{◌≡◌, IfOk};
-ghost use Rattle.chew_spec_shared.specs.Asked.{IsOf};
+ghost use Rattle.chew_spec_shared.specs.SharedCalls.{IsOf};
 
 use crate::contexts::Told;
 use chew_plain::Reply;

@@ -3,7 +3,7 @@
 ghost use Rattle.std.specs.Prelude.{◌≡◌, ◌≢◌, ◌⊎◌, ℕ, ◌+◌, ◌≤◌, List, [], ◌∷◌, ◌++◌, length};
 ghost use Rattle.chew_spec_dictionary.specs.Growth.{IsFront};
 ghost use Rattle.chew_spec_dictionary.specs.History.{Entry, own};
-ghost use Rattle.chew_spec_cell.specs.Seen.{HasSeen, IsTurn, longer};
+ghost use Rattle.chew_spec_cell.specs.Sight.{HasSeen, IsTurn, longer};
 
 /// Who has seen this much of a history has seen all its own entries, and a front of the history. All of it is
 /// seen by anybody; what was seen of a list that was seen of a history was seen of the history; and the entry of

@@ -3,7 +3,7 @@
 ghost use Rattle.std.specs.Prelude.{◌≡◌, ◌≢◌, ◌↔◌, ℕ, ◌-◌, ◌^◌, ◌≤◌, ◌<◌, List, length, Some, None, true, false, Contains};
 ghost use Rattle.chew_spec_syllable.specs.Row.{Row};
 ghost use Rattle.chew_spec_dictionary.specs.Call.{Reply, Full, NotThere, Hid};
-ghost use Rattle.chew_spec_dictionary.specs.Hidden.{is_hidden, shown_rows};
+ghost use Rattle.chew_spec_dictionary.specs.HiddenPairs.{is_hidden, shown_rows};
 ghost use Rattle.chew_spec_dictionary.specs.System.{row_of};
 ghost use Rattle.chew_spec_dictionary.specs.Dictionary.{Dictionary, hide};
 

@@ -5,7 +5,7 @@ ghost use Rattle.std.specs.List.{AllAdjacentBelow, list_all};
 ghost use Rattle.std.specs.declared.cmp.Ordering.TheVariants.{Less};
 ghost use Rattle.chew_spec_syllable.specs.Row.{Row, is_row, no_pair_twice};
 ghost use Rattle.chew_spec_dictionary.specs.Call.{Hit, is_hit};
-ghost use Rattle.chew_spec_dictionary.specs.Hidden.{is_hidden};
+ghost use Rattle.chew_spec_dictionary.specs.HiddenPairs.{is_hidden};
 ghost use Rattle.chew_spec_dictionary.specs.Look.{Interval, intervals, hit_cmp, hits_of};
 
 /// The intervals of a run are all of 1 to 11 syllables that lie in it.

@@ -3,7 +3,7 @@
 ghost use Rattle.std.specs.Prelude.{◌≡◌, ℕ, ◌+◌, ◌-◌, ◌^◌, ◌≤◌, ◌<◌, ◌||◌, List, length, true, nat_le, Some};
 ghost use Rattle.std.specs.List.{list_all};
 ghost use Rattle.chew_spec_syllable.specs.Row.{Row, is_row};
-ghost use Rattle.chew_spec_dictionary.specs.Hidden.{is_hidden};
+ghost use Rattle.chew_spec_dictionary.specs.HiddenPairs.{is_hidden};
 ghost use Rattle.chew_spec_dictionary.specs.Dictionary.{Dictionary};
 ghost use Rattle.chew_spec_dictionary.specs.History.{Point, Entry, start_of, after, replies, calls_of, is_legal};
 

@@ -3,7 +3,7 @@
 ghost use Rattle.std.specs.Prelude.{◌≡◌, ◌≢◌, ◌↔◌, ℕ, ◌+◌, ◌-◌, ◌^◌, ◌≤◌, ◌<◌, min, max, List, length, ◌==◌, if◌then◌else◌, Some, None, true, false};
 ghost use Rattle.chew_spec_syllable.specs.Row.{Row};
 ghost use Rattle.chew_spec_dictionary.specs.Call.{Reply, Learned, Full, Forgot, NotThere};
-ghost use Rattle.chew_spec_dictionary.specs.Hidden.{is_hidden, shown_rows};
+ghost use Rattle.chew_spec_dictionary.specs.HiddenPairs.{is_hidden, shown_rows};
 ghost use Rattle.chew_spec_dictionary.specs.System.{row_of, peak_of};
 ghost use Rattle.chew_spec_dictionary.specs.Frequency.{update};
 ghost use Rattle.chew_spec_dictionary.specs.Dictionary.{Dictionary, learn, forget};

@@ -8,11 +8,11 @@ ghost use Rattle.chew_spec_phrasing.specs.Usable.{Piece, is_unbroken, phrase_len
 ghost use Rattle.chew_spec_preedit.specs.Cell.{Cell, has_sound};
 ghost use Rattle.chew_spec_preedit.specs.Edit.{emptied, inserted, is_full, released};
 ghost use Rattle.chew_spec_text.specs.KeyStroke.{Enter};
-ghost use Rattle.chew_spec_editor.specs.Committed.{buffer_left, changes_made, committed, phrase_learnt};
+ghost use Rattle.chew_spec_editor.specs.Commits.{buffer_left, changes_made, committed, phrase_learnt};
 ghost use Rattle.chew_spec_editor.specs.Editor.{Editor, characters_of, shown_text};
 ghost use Rattle.chew_spec_editor.specs.Invariant.{is_piece};
 ghost use Rattle.chew_spec_editor.specs.Keys.{press};
-ghost use Rattle.chew_spec_editor.specs.Learnt.{Stretch, learns, stretch_of, stretches};
+ghost use Rattle.chew_spec_editor.specs.Learning.{Stretch, learns, stretch_of, stretches};
 ghost use Rattle.chew_spec_editor.specs.Press.{asking, edit, insert, leading_cells, releasing};
 
 /// Enter commits exactly the text that was shown, empties the buffer, and learns what it commits where the settings say so.

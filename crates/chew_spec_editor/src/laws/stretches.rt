@@ -6,11 +6,11 @@ ghost use Rattle.chew_spec_syllable.specs.Row.{Row};
 ghost use Rattle.chew_spec_dictionary.specs.Call.{Call};
 ghost use Rattle.chew_spec_phrasing.specs.Usable.{Piece, phrase_len};
 ghost use Rattle.chew_spec_preedit.specs.Cell.{Cell, has_sound};
-ghost use Rattle.chew_spec_editor.specs.Committed.{phrase_learnt};
+ghost use Rattle.chew_spec_editor.specs.Commits.{phrase_learnt};
 ghost use Rattle.chew_spec_editor.specs.Invariant.{covers, is_piece};
 ghost use Rattle.chew_spec_text.specs.Sample.{bytes_of};
 ghost use Rattle.chew_spec_editor.specs.Sample.{plans};
-ghost use Rattle.chew_spec_editor.specs.Learnt.{Stretch, go_together, learns_of, stretch_of, stretches};
+ghost use Rattle.chew_spec_editor.specs.Learning.{Stretch, go_together, learns_of, stretch_of, stretches};
 
 /// The stretches of single syllables are the longest ones: two that stand side by side don't go together. Each place of one
 /// has a piece of one syllable, so that no longer piece lies in it, and no symbol.

@@ -5,7 +5,7 @@ ghost use Rattle.std.specs.List.{range_with_len};
 ghost use Rattle.chew_spec_dictionary.specs.Call.{Learn, Look};
 ghost use Rattle.chew_spec_dictionary.specs.FiveRows.{ce4, five_rows, shi4};
 ghost use Rattle.chew_spec_text.specs.Sample.{bytes_of};
-ghost use Rattle.chew_spec_editor.specs.Learnt.{learns};
+ghost use Rattle.chew_spec_editor.specs.Learning.{learns};
 ghost use Rattle.chew_spec_editor.specs.Sample.{after_forgetting, after_typing, last_lines, last_of, lines_then, plans, plans_cells, with_cap, with_cells, with_page};
 ghost use Rattle.chew_spec_editor.specs.Settings.{standard_settings};
 

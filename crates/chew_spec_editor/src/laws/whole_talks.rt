@@ -11,7 +11,7 @@ ghost use Rattle.chew_spec_text.specs.KeyStroke.{KeyStroke, is_key_stroke};
 ghost use Rattle.chew_spec_editor.specs.Answers.{AreFoundBefore};
 ghost use Rattle.chew_spec_editor.specs.Editor.{Editor, empty_editor};
 ghost use Rattle.chew_spec_editor.specs.Invariant.{HasSingles, is_editor};
-ghost use Rattle.chew_spec_editor.specs.Phrased.{IsPhrased};
+ghost use Rattle.chew_spec_editor.specs.BestPieces.{IsPhrased};
 ghost use Rattle.chew_spec_editor.specs.Settings.{Settings};
 ghost use Rattle.chew_spec_editor.specs.Talk.{talk_from};
 

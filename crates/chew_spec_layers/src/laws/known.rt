@@ -6,7 +6,7 @@ ghost use Rattle.chew_spec_dictionary.specs.Known.{attempt, be, by, ce_key, ce_s
 ghost use Rattle.chew_spec_layers.specs.Mark.{Live, Grave, is_layer, put_mark};
 ghost use Rattle.chew_spec_layers.specs.Known.{marked};
 ghost use Rattle.chew_spec_layers.specs.Overlay.{overlay};
-ghost use Rattle.chew_spec_layers.specs.Touched.{touched};
+ghost use Rattle.chew_spec_layers.specs.Touches.{touched};
 
 /// A map of 測, 策 and 是 under a layer: 測 has a newer frequency, 策 a grave, 是 no mark, 試 is new, and the grave of a pair that
 /// the map doesn't have, 測試, leaves no row. Marks out of order and a pair twice are no layer; and a newer mark of a pair stands

@@ -9,7 +9,7 @@ ghost use Rattle.chew_spec_layers.specs.Layers.{Layers, Waiting, layers_of, froz
 ghost use Rattle.chew_spec_layers.specs.Mark.{Marked, mark_of, row_of_mark};
 ghost use Rattle.chew_spec_layers.specs.Overlay.{overlay, says_over};
 ghost use Rattle.chew_spec_layers.specs.Standing.{StandForMap};
-ghost use Rattle.chew_spec_layers.specs.Touched.{is_about, tells_change, touched};
+ghost use Rattle.chew_spec_layers.specs.Touches.{is_about, tells_change, touched};
 
 /// Three layers that stand for the plain map hold what it holds after their journal, and say of each pair what it says.
 pub fn what_layers_hold()

@@ -11,7 +11,7 @@ ghost use Rattle.chew_spec_layers.specs.Layers.{Layers, Waiting, map_in, diction
 ghost use Rattle.chew_spec_layers.specs.Mark.{Live, Grave};
 ghost use Rattle.chew_spec_layers.specs.Overlay.{overlay};
 ghost use Rattle.chew_spec_layers.specs.Standing.{StandForMap};
-ghost use Rattle.chew_spec_layers.specs.Touched.{tells_change};
+ghost use Rattle.chew_spec_layers.specs.Touches.{tells_change};
 
 /// What each call that is not the keeper's makes of layers, so that they go on to stand for the plain map, by the reply of the
 /// dictionary that they hold: a look-up is noted; a learn marks its pair with the frequency and the time of its reply, and the

@@ -9,7 +9,7 @@ ghost use Rattle.chew_spec_dictionary.specs.System.{row_of};
 ghost use Rattle.chew_spec_layers.specs.Mark.{Live, Grave, Marked, put_mark, row_of_mark};
 ghost use Rattle.chew_spec_layers.specs.Overlay.{overlay};
 ghost use Rattle.chew_spec_layers.specs.Standing.{IsLayerOf};
-ghost use Rattle.chew_spec_layers.specs.Touched.{is_about, tells_change};
+ghost use Rattle.chew_spec_layers.specs.Touches.{is_about, tells_change};
 
 /// A stretch of nothing has a layer of nothing. An entry that changes no pair leaves the layer, one that does has it get
 /// the mark of what the pair is then, and the layer over the map before the stretch is the map after it.

@@ -4,7 +4,7 @@ ghost use Rattle.std.specs.Prelude.{◌≡◌, ℕ, ◌+◌, ◌++◌, ◌||◌,
 ghost use Rattle.chew_spec_dictionary.specs.Call.{Hit, Call, Look, Learn, Forget, Hide, Freeze, Install, Rows, Learned, Full, Forgot, NotThere, Hid, Frozen, Installed};
 ghost use Rattle.chew_spec_dictionary.specs.System.{row_of};
 ghost use Rattle.chew_spec_dictionary.specs.History.{Entry, Point, after, answer};
-ghost use Rattle.chew_spec_layers.specs.Touched.{tells_change, is_about, changes, touches, touched};
+ghost use Rattle.chew_spec_layers.specs.Touches.{tells_change, is_about, changes, touches, touched};
 
 /// Which replies tell of a change: Learned, Forgot and Hid.
 pub fn replies_that_tell()

@@ -6,7 +6,7 @@ ghost use Rattle.chew_spec_phrasing.specs.Usable.{Piece, phrase_len};
 ghost use Rattle.chew_spec_preedit.specs.Cell.{Cell, Symbol, has_sound};
 ghost use Rattle.chew_spec_preedit.specs.InTurn.{is_in_turn};
 ghost use Rattle.chew_spec_preedit.specs.Known.{ce, mark, shi};
-ghost use Rattle.chew_spec_preedit.specs.Shown.{character_at, characters_of, shown_text};
+ghost use Rattle.chew_spec_preedit.specs.ShownText.{character_at, characters_of, shown_text};
 
 /// Where each syllable's cell has a character of a piece, as many characters are shown as there are cells: a symbol itself,
 /// and for a syllable the character of its piece.

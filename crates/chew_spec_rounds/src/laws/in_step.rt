@@ -12,7 +12,7 @@ ghost use Rattle.chew_spec_rounds.specs.Front.{front_checkpoint, shape_after};
 ghost use Rattle.chew_spec_rounds.specs.InStep.{IsInStep};
 ghost use Rattle.chew_spec_rounds.specs.Round.{DiskFault, IsRound, KeepersCalls, Round, Saved, saved_number};
 ghost use Rattle.chew_spec_rounds.specs.Session.{GrowsByOthers};
-ghost use Rattle.chew_spec_rounds.specs.Written.{WritesCheckpoint};
+ghost use Rattle.chew_spec_rounds.specs.WriteSteps.{WritesCheckpoint};
 
 /// Any disk before a checkpoint is written, and after.
 pub trait AnyDisks {

@@ -6,7 +6,7 @@ ghost use Rattle.chew_spec_disk.specs.Disk.{DiskState, Later};
 ghost use Rattle.chew_spec_slots.specs.Keep.{Keep};
 ghost use Rattle.chew_spec_slots.specs.Slot.{Saved};
 ghost use Rattle.chew_spec_slots.specs.Steps.{FillsBody, LiftsGate, ShutsGate};
-ghost use Rattle.chew_spec_rounds.specs.Written.{WritesCheckpoint};
+ghost use Rattle.chew_spec_rounds.specs.WriteSteps.{WritesCheckpoint};
 
 /// Any disk before a checkpoint is written, once the gate is shut, once the body is filled, and once the gate is lifted.
 pub trait AnySteps {

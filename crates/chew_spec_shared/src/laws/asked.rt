@@ -5,7 +5,7 @@ ghost use Rattle.chew_spec_dictionary.specs.Call.{Call, Reply};
 ghost use Rattle.chew_spec_dictionary.specs.Growth.{IsFront, Made, reply_at};
 ghost use Rattle.chew_spec_dictionary.specs.History.{Entry, own, start_of};
 ghost use Rattle.chew_spec_cell.specs.Pass.{Pass};
-ghost use Rattle.chew_spec_shared.specs.Asked.{Asked};
+ghost use Rattle.chew_spec_shared.specs.SharedCalls.{Asked};
 
 /// A call of a pass: its number made this one call and got this one reply, and its entries are those of before and this one. What
 /// is seen begins with what was seen, has grown, and ends with the call, whose reply is that of the last place.

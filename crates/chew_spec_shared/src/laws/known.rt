@@ -5,9 +5,9 @@ ghost use Rattle.chew_spec_dictionary.specs.Call.{Forget, Freeze, Forgot, Frozen
 ghost use Rattle.chew_spec_dictionary.specs.Known.{by, ce_shi_key, hit, learn_test, row_with, test};
 ghost use Rattle.chew_spec_layers.specs.Need.{Fresh, Nothing, Waiting};
 ghost use Rattle.chew_spec_cell.specs.Pass.{Cell};
-ghost use Rattle.chew_spec_shared.specs.Asked.{Asked};
+ghost use Rattle.chew_spec_shared.specs.SharedCalls.{Asked};
 ghost use Rattle.chew_spec_shared.specs.Known.{layer_of_test, nothing, pass_with, up_to_forget, up_to_freeze, up_to_install, up_to_look};
-ghost use Rattle.chew_spec_shared.specs.Needed.{IsNeed};
+ghost use Rattle.chew_spec_shared.specs.Needs.{IsNeed};
 ghost use Rattle.chew_spec_shared.specs.Snapshot.{IsMerge, IsSnapshot};
 
 /// The first learn is answered at time 0; a look-up behind it, by a pass that had seen nothing, finds it; the freeze behind both

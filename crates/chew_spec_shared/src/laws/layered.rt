@@ -6,7 +6,7 @@ ghost use Rattle.chew_spec_layers.specs.Layers.{Layers, Waiting, frozen_marks};
 ghost use Rattle.chew_spec_layers.specs.Need.{need_of};
 ghost use Rattle.chew_spec_layers.specs.Overlay.{overlay};
 ghost use Rattle.chew_spec_layers.specs.Standing.{StandForMap};
-ghost use Rattle.chew_spec_shared.specs.Needed.{IsNeed};
+ghost use Rattle.chew_spec_shared.specs.Needs.{IsNeed};
 ghost use Rattle.chew_spec_shared.specs.Snapshot.{IsMerge, IsSnapshot};
 
 /// A layer that waits is the snapshot after the journal, a merge after the journal is the base under what waits, whose number it

@@ -7,8 +7,8 @@ ghost use Rattle.chew_spec_dictionary.specs.History.{Entry, is_legal, start_of};
 ghost use Rattle.chew_spec_layers.specs.Layers.{Waiting};
 ghost use Rattle.chew_spec_layers.specs.Need.{Need};
 ghost use Rattle.chew_spec_layers.specs.Overlay.{overlay};
-ghost use Rattle.chew_spec_cell.specs.Seen.{HasSeen};
-ghost use Rattle.chew_spec_shared.specs.Needed.{IsNeed};
+ghost use Rattle.chew_spec_cell.specs.Sight.{HasSeen};
+ghost use Rattle.chew_spec_shared.specs.Needs.{IsNeed};
 ghost use Rattle.chew_spec_shared.specs.Snapshot.{IsMerge, IsSnapshot, installed_after, waiting_after};
 
 /// However a legal history goes on by entries of others, what waited for the keeper goes on to wait, the base is the same, and

@@ -3,7 +3,7 @@ use Rattle.std.proofs.Common.{◌+◌, ◌∙◌, ap, sym, subst}
 use Rattle.std.proofs.lemmas.Result.{err_from_is_err_and}
 use Rattle.chew_spec_disk.proofs.Moments.{later-chain}
 use Rattle.chew_spec_slots.specs.Keep.{Keep}
-use Rattle.chew_spec_rounds.specs.Written.{WritesCheckpoint}
+use Rattle.chew_spec_rounds.specs.WriteSteps.{WritesCheckpoint}
 use Rattle.chew_spec_rounds.proofs.Steps.{shutting-fails}
 use Rattle.chew_checkpoint.proofs.Writing.{last-step, no-body}
 use Rattle.chew_checkpoint.proofs.steps.write_body.Goals as goal

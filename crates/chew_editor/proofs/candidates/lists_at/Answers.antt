@@ -1,7 +1,7 @@
 -- The rows of a place give the lists that all rows of the run give.
 use Rattle.std.proofs.Common.{◌≡◌, ◌-◌, ℕ, List, ap, ap₂, arith, length, min, ◌∙◌}
 use Rattle.std.proofs.lemmas.Result.{IfOk-weaker}
-use Rattle.chew_spec_phrasing.specs.Combined.{combined_hits}
+use Rattle.chew_spec_phrasing.specs.CombinedRows.{combined_hits}
 use Rattle.chew_spec_preedit.specs.PlacedRun.{PlacedRun, breaks_in}
 use Rattle.chew_spec_preedit.specs.Window.{candidate_lists}
 use Rattle.chew_phrasing.specs.Combine.{combined_from}

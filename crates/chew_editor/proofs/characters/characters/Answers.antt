@@ -1,5 +1,5 @@
 -- One cell more, until all are there.
-use Rattle.chew_spec_preedit.specs.Shown.{characters_of}
+use Rattle.chew_spec_preedit.specs.ShownText.{characters_of}
 use Rattle.chew_preedit.specs.CellItem.{cell_of}
 use Rattle.chew_editor.proofs.Adding.{characters-all, characters-more}
 use Rattle.chew_editor.proofs.characters.characters.Goals as goal

@@ -1,6 +1,6 @@
 -- The characters so far, and those of the cells to come, are all.
 use Rattle.std.proofs.Common.{◌≡◌, ◌++◌, drop, map}
-use Rattle.chew_spec_preedit.specs.Shown.{characters_from}
+use Rattle.chew_spec_preedit.specs.ShownText.{characters_from}
 use Rattle.chew_preedit.specs.CellItem.{cell_of}
 use Rattle.chew_editor.proofs.characters.characters.Given as goal
 

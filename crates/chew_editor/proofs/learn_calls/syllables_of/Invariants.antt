@@ -1,6 +1,6 @@
 -- The syllables so far, and those to come.
 use Rattle.std.proofs.Common.{◌≡◌, ◌++◌, ◌≤◌, drop, flat_map, length, map}
-use Rattle.chew_spec_editor.specs.Learnt.{code_in}
+use Rattle.chew_spec_editor.specs.Learning.{code_in}
 use Rattle.chew_preedit.specs.CellItem.{cell_of}
 use Rattle.chew_editor.proofs.learn_calls.syllables_of.Given as goal
 

@@ -3,8 +3,8 @@ use Rattle.std.proofs.Common.{◌≡◌, List, ap, ap₂, arith, drop, flat_map,
 use Rattle.std.proofs.lemmas.Result.{IfOk-weaker}
 use Rattle.chew_spec_phrasing.specs.Usable.{Piece}
 use Rattle.chew_spec_preedit.specs.Cell.{Cell}
-use Rattle.chew_spec_preedit.specs.Shown.{characters_of}
-use Rattle.chew_spec_editor.specs.Learnt.{code_in, key_at}
+use Rattle.chew_spec_preedit.specs.ShownText.{characters_of}
+use Rattle.chew_spec_editor.specs.Learning.{code_in, key_at}
 use Rattle.chew_preedit.specs.CellItem.{cell_of}
 use Rattle.chew_editor.specs.State.{state_of}
 use Rattle.chew_editor.proofs.LearnSteps.{as-many-shown, mapped-part, pair-shown}

@@ -3,7 +3,7 @@ use Rattle.std.proofs.Common.{◌*◌, ◌+◌, ◌/◌, ◌++◌, ◌∷◌, []
 use Rattle.std.specs.List.{range_with_len}
 use Rattle.std.proofs.lemmas.List.{length-map}
 use Rattle.chew_spec_syllable.specs.Row.{is_pair}
-use Rattle.chew_spec_editor.specs.Learnt.{code_in}
+use Rattle.chew_spec_editor.specs.Learning.{code_in}
 use Rattle.chew_plain.specs.Call.{call_of}
 use Rattle.chew_plain.proofs.Looks.{one_more}
 use Rattle.chew_preedit.specs.CellItem.{cell_of}

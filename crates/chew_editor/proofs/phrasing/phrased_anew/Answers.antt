@@ -1,7 +1,7 @@
 -- The best pieces begin in their run, whose places are small.
 use Rattle.std.proofs.Common.{◌+◌, ◌≤◌, All, ap, ap₂, length, subst, sym, ◌∙◌}
 use Rattle.chew_spec_phrasing.specs.Best.{best_pieces}
-use Rattle.chew_spec_phrasing.specs.Combined.{combined_hits}
+use Rattle.chew_spec_phrasing.specs.CombinedRows.{combined_hits}
 use Rattle.chew_spec_preedit.specs.PlacedRun.{PlacedRun}
 use Rattle.chew_editor.proofs.Placing.{best-fit}
 use Rattle.chew_editor.proofs.phrasing.phrased_anew.Goals as goal

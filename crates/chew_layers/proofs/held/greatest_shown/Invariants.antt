@@ -1,6 +1,6 @@
 -- The greatest of the hits so far.
 use Rattle.std.proofs.Common.{◌≡◌, ◌≤◌, take}
-use Rattle.chew_layers.specs.Shown.{greatest_of_shown}
+use Rattle.chew_layers.specs.GreatestFrequency.{greatest_of_shown}
 use Rattle.chew_layers.proofs.held.greatest_shown.Given as goal
 
 abbrev pub invariant-loop-hit : goal.invariant-loop-hit

@@ -1,7 +1,7 @@
 -- What was counted is told.
 use Rattle.std.proofs.Common.{arith, length}
 use Rattle.chew_script.specs.Keys.{keys_of}
-use Rattle.chew_make.specs.Counted.{tally_of}
+use Rattle.chew_make.specs.Counts.{tally_of}
 use Rattle.chew_make.proofs.Making.{summary_told}
 use Rattle.chew_make.proofs.make.summary_of.Goals as goal
 

@@ -13,7 +13,7 @@ use Rattle.chew_spec_program.specs.Make.{typed_over}
 use Rattle.chew_script.specs.Keys.{key_of, keys_of}
 use Rattle.chew_script.specs.declared.keystroke.KeyStroke.{KeyStroke}
 use Rattle.chew_script.specs.declared.keystroke.KeyStroke.TheVariants.{Char}
-use Rattle.chew_make.specs.Counted.{basis_in, counted, tally_of}
+use Rattle.chew_make.specs.Counts.{basis_in, counted, tally_of}
 use Rattle.chew_make.specs.declared.typist.Typist.{Typist}
 use Rattle.chew_make.proofs.Counting.{typed_key, typed_none}
 use Rattle.chew_make.proofs.typing.type_keys.Goals as goal

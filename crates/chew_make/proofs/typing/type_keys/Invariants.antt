@@ -5,7 +5,7 @@ use Rattle.chew_spec_syllable.specs.Row.{is_row}
 use Rattle.chew_spec_editor.specs.Invariant.{HasSingles}
 use Rattle.chew_spec_program.specs.Make.{typed_over}
 use Rattle.chew_script.specs.Keys.{keys_of}
-use Rattle.chew_make.specs.Counted.{basis_in, counted, tally_of}
+use Rattle.chew_make.specs.Counts.{basis_in, counted, tally_of}
 use Rattle.chew_make.proofs.typing.type_keys.Given as goal
 
 abbrev pub invariant-loop-key : goal.invariant-loop-key

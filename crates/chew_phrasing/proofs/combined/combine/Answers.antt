@@ -1,6 +1,6 @@
 -- One start more, until all are there.
 use Rattle.std.proofs.Common.{List, ℕ, length, ◌∙◌, ap}
-use Rattle.chew_spec_phrasing.specs.Combined.{combined_hits}
+use Rattle.chew_spec_phrasing.specs.CombinedRows.{combined_hits}
 use Rattle.chew_plain.proofs.Looks.{part_more, parts_all}
 use Rattle.chew_phrasing.specs.Combine.{combined_from}
 use Rattle.chew_phrasing.proofs.Combining.{all_combined}

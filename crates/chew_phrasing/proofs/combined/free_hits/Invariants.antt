@@ -1,8 +1,8 @@
 -- The free rows so far, and those to come, are all of the key.
 use Rattle.std.proofs.Common.{◌≡◌, ◌++◌, drop, filter, map}
-use Rattle.chew_spec_phrasing.specs.Combined.{shown_hit}
+use Rattle.chew_spec_phrasing.specs.CombinedRows.{shown_hit}
 use Rattle.chew_spec_dictionary.specs.System.{rows_of}
-use Rattle.chew_spec_phrasing.specs.Combined.{is_free_of}
+use Rattle.chew_spec_phrasing.specs.CombinedRows.{is_free_of}
 use Rattle.chew_phrasing.proofs.combined.free_hits.Given as goal
 
 abbrev pub invariant-loop-i : goal.invariant-loop-i

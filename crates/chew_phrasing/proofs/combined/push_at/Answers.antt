@@ -2,7 +2,7 @@
 use Rattle.std.proofs.Common.{◌+◌, ◌-◌, List, ◌++◌, take, drop, map, filter, ap, ◌∙◌}
 use Rattle.chew_spec_dictionary.specs.Call.{Hit}
 use Rattle.chew_spec_dictionary.specs.System.{rows_of}
-use Rattle.chew_spec_phrasing.specs.Combined.{as_shown, is_free_of, is_shown, shown_hit}
+use Rattle.chew_spec_phrasing.specs.CombinedRows.{as_shown, is_free_of, is_shown, shown_hit}
 use Rattle.chew_phrasing.proofs.Combining.{codes_between, combined_from_sorted}
 use Rattle.chew_phrasing.proofs.combined.push_at.Goals as goal
 

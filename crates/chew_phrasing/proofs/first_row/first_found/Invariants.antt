@@ -1,6 +1,6 @@
 -- The first of the hits so far.
 use Rattle.std.proofs.Common.{filter, map, take}
-use Rattle.chew_spec_phrasing.specs.Combined.{as_shown, is_shown}
+use Rattle.chew_spec_phrasing.specs.CombinedRows.{as_shown, is_shown}
 use Rattle.chew_phrasing.specs.Least.{IsLeast, keeps}
 use Rattle.chew_phrasing.proofs.first_row.first_found.Given as goal
 

@@ -2,7 +2,7 @@
 use Rattle.std.proofs.Common.{◌++◌, not, filter, map, Some, sym, ap, ◌∙◌, subst}
 use Rattle.chew_spec_dictionary.specs.Call.{Hit}
 use Rattle.chew_spec_dictionary.specs.System.{rows_of}
-use Rattle.chew_spec_phrasing.specs.Combined.{as_shown, is_free_of, is_shown, shown_hit}
+use Rattle.chew_spec_phrasing.specs.CombinedRows.{as_shown, is_free_of, is_shown, shown_hit}
 use Rattle.chew_phrasing.specs.Least.{IsLeast, keeps}
 use Rattle.chew_phrasing.proofs.FirstPlaces.{becomes_first, first_of_key, stays_first}
 use Rattle.chew_phrasing.proofs.SystemRows.{row_among}

@@ -3,7 +3,7 @@ use Rattle.std.proofs.Common.{◌-◌, ◌++◌, List, filter, map, take, drop, 
 use Rattle.std.proofs.lemmas.List.{length-take, take_all}
 use Rattle.chew_spec_syllable.specs.Row.{Row}
 use Rattle.chew_spec_dictionary.specs.Call.{Hit}
-use Rattle.chew_spec_phrasing.specs.Combined.{is_free_of, shown_hit}
+use Rattle.chew_spec_phrasing.specs.CombinedRows.{is_free_of, shown_hit}
 use Rattle.chew_phrasing.specs.FirstPlace.{rows_between}
 use Rattle.chew_phrasing.specs.Least.{IsLeast, free_one, keeps}
 use Rattle.chew_phrasing.proofs.Offered.{rows_more}

@@ -1,7 +1,7 @@
 -- The first of one so far and of the system's rows so far.
 use Rattle.std.proofs.Common.{◌++◌, filter, map, take, List}
 use Rattle.chew_spec_dictionary.specs.Call.{Hit}
-use Rattle.chew_spec_phrasing.specs.Combined.{is_free_of, shown_hit}
+use Rattle.chew_spec_phrasing.specs.CombinedRows.{is_free_of, shown_hit}
 use Rattle.chew_phrasing.specs.FirstPlace.{rows_between}
 use Rattle.chew_phrasing.specs.Least.{IsLeast, keeps}
 use Rattle.chew_phrasing.proofs.first_row.walk.Given as goal

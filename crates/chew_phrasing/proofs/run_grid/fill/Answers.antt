@@ -1,6 +1,6 @@
 -- The interval has a piece, or a break parts it, or its first row becomes its piece.
 use Rattle.std.proofs.Common.{◌+◌, ◌-◌, ◌∷◌, ◌++◌, [], take, drop, sym, ◌∙◌, subst, arith}
-use Rattle.chew_spec_phrasing.specs.Combined.{combined_hits}
+use Rattle.chew_spec_phrasing.specs.CombinedRows.{combined_hits}
 use Rattle.chew_spec_phrasing.specs.Usable.{piece_at}
 use Rattle.chew_phrasing.specs.Grid.{IsFilled}
 use Rattle.chew_phrasing.proofs.Combining.{codes_between}

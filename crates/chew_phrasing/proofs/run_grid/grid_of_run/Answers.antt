@@ -3,7 +3,7 @@ use Rattle.std.proofs.Common.{[], ◌∷◌, ◌++◌, List, length, take, All, 
 use Rattle.std.proofs.lemmas.List.{take_all, take_more}
 use Rattle.std.proofs.lemmas.List.Elements.{All-nil}
 use Rattle.chew_spec_dictionary.specs.Look.{Interval}
-use Rattle.chew_spec_phrasing.specs.Combined.{combined_hits}
+use Rattle.chew_spec_phrasing.specs.CombinedRows.{combined_hits}
 use Rattle.chew_spec_phrasing.specs.Usable.{piece_at}
 use Rattle.chew_phrasing.specs.FirstPlace.{IsKnown}
 use Rattle.chew_phrasing.specs.Grid.{IsFilled}

@@ -1,6 +1,6 @@
 -- The intervals so far are filled.
 use Rattle.std.proofs.Common.{◌≡◌, [], All, length, take}
-use Rattle.chew_spec_phrasing.specs.Combined.{combined_hits}
+use Rattle.chew_spec_phrasing.specs.CombinedRows.{combined_hits}
 use Rattle.chew_spec_phrasing.specs.Usable.{piece_at}
 use Rattle.chew_phrasing.specs.FirstPlace.{IsKnown}
 use Rattle.chew_phrasing.specs.Grid.{IsFilled}

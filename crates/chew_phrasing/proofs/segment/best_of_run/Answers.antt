@@ -1,7 +1,7 @@
 -- The grid has the pieces of the combined rows, and the best by it is theirs.
 use Rattle.std.proofs.Common.{[], length, unwrap_or, sym, ap, ◌∙◌, subst}
 use Rattle.std.proofs.lemmas.Result.{IfOk-weaker}
-use Rattle.chew_spec_phrasing.specs.Combined.{combined_hits}
+use Rattle.chew_spec_phrasing.specs.CombinedRows.{combined_hits}
 use Rattle.chew_spec_phrasing.specs.Usable.{piece_at}
 use Rattle.chew_phrasing.specs.Grid.{IsGrid}
 use Rattle.chew_phrasing.proofs.GridPieces.{best_by_rules, rules_give_pieces, rules_possible}

@@ -1,6 +1,6 @@
 -- The greatest of those seen, with those to come, is that of all.
 use Rattle.std.proofs.Common.{◌≡◌, ◌≤◌, take}
-use Rattle.chew_spec_dictionary.specs.Hidden.{shown_rows}
+use Rattle.chew_spec_dictionary.specs.HiddenPairs.{shown_rows}
 use Rattle.chew_spec_dictionary.specs.System.{greatest}
 use Rattle.chew_plain.proofs.dictionary.greatest_shown.Given as goal
 

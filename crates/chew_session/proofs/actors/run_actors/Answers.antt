@@ -9,7 +9,7 @@ use Rattle.chew_spec_dictionary.specs.History.{Entry, is_legal, start_of}
 use Rattle.chew_spec_text.specs.KeyStroke as text
 use Rattle.chew_spec_slots.specs.Keep.{Keep}
 use Rattle.chew_spec_cell.specs.Pass.{Pass}
-use Rattle.chew_spec_cell.specs.Seen.{HasSeen}
+use Rattle.chew_spec_cell.specs.Sight.{HasSeen}
 use Rattle.chew_spec_rounds.specs.Round as spec
 use Rattle.chew_spec_rounds.specs.Session as crash
 use Rattle.chew_spec_session.specs.Context.{Basis}

@@ -2,8 +2,8 @@
 use Rattle.std.proofs.Common.{List, [], ◌∷◌, ◌++◌, ◌∙◌, ap, map}
 use Rattle.std.proofs.lemmas.List.{map-append}
 use Rattle.chew_spec_dictionary.specs.History.{start_of}
-use Rattle.chew_spec_cell.specs.Seen.{HasSeen}
-use Rattle.chew_spec_shared.specs.Asked.{Asked}
+use Rattle.chew_spec_cell.specs.Sight.{HasSeen}
+use Rattle.chew_spec_shared.specs.SharedCalls.{Asked}
 use Rattle.chew_plain.specs.Call.{call_of, reply_of}
 use Rattle.chew_plain.specs.declared.reply.Reply.{Reply}
 use Rattle.chew_session.proofs.Calling.{if_ok, made-asked, made-seen, on_err}

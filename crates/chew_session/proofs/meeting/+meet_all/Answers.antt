@@ -5,7 +5,7 @@ use Rattle.std.proofs.Common.{arith, rules, sym, ap, ◌∙◌, subst}
 use Rattle.std.proofs.lemmas.List.{length-append}
 use Rattle.std.proofs.lemmas.List.Elements.{All-push, All-same, AllZip-push}
 use Rattle.chew_spec_cell.specs.Pass.{Pass}
-use Rattle.chew_spec_shared.specs.Asked.{IsOf}
+use Rattle.chew_spec_shared.specs.SharedCalls.{IsOf}
 use Rattle.chew_session.specs.Crew.{SeesMore}
 use Rattle.chew_session.proofs.meeting.+meet_all.Goals as goal
 

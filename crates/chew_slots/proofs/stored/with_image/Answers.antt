@@ -2,7 +2,7 @@
 use Rattle.std.proofs.Common.{◌≡◌, ℕ, ◌+◌, ◌-◌, take, drop, arith, subst}
 use Rattle.chew_spec_image.specs.Reading.{image_reading}
 use Rattle.chew_spec_slots.specs.Reading.{as_open, image_len, saved_as}
-use Rattle.chew_slots.specs.Stored.{TellsFaulty}
+use Rattle.chew_slots.specs.Contents.{TellsFaulty}
 use Rattle.chew_slots.proofs.stored.with_image.Goals as goal
 
 pub returns-in-Err-clause-err : goal.returns-in-Err-clause-err

@@ -4,7 +4,7 @@ use Rattle.std.specs.Char.{encode_utf8}
 use Rattle.std.specs.Str.{chars}
 use Rattle.chew_spec_dictionary.specs.FiveRows.{five_rows}
 use Rattle.chew_spec_phrasing.specs.Best.{best_of}
-use Rattle.chew_spec_phrasing.specs.Combined.{combined_hits}
+use Rattle.chew_spec_phrasing.specs.CombinedRows.{combined_hits}
 use Rattle.chew_spec_phrasing.specs.Usable.{piece_at}
 use Rattle.chew_spec_phrasing.proofs.laws.known_combined_rows.Goals as goal
 

@@ -2,7 +2,7 @@
 use Rattle.std.proofs.Common.{◌≡◌, ℕ, ◌<◌, true, false}
 use Rattle.std.specs.List.{list_any}
 use Rattle.chew_spec_phrasing.specs.CanSegment.{cell_at}
-use Rattle.chew_spec_phrasing.specs.Combined.{is_hit_at}
+use Rattle.chew_spec_phrasing.specs.CombinedRows.{is_hit_at}
 use Rattle.chew_spec_phrasing.specs.Usable.{meets}
 use Rattle.chew_tests_phrasing.proofs.phrasable.have_singles.Given as goal
 

@@ -8,7 +8,7 @@ use Rattle.chew_spec_program.specs.Writing.{sunk}
 use Rattle.chew_spec_program.proofs.Kept.{run-kept}
 use Rattle.chew_spec_program.proofs.Opened.{opened-stands}
 use Rattle.chew_spec_program.proofs.Runs.{run-disk, run-sink, run-source, run-statuses, run-words}
-use Rattle.chewing_cli.specs.Done.{ended_of}
+use Rattle.chewing_cli.specs.RunEnd.{ended_of}
 use Rattle.chewing_cli.specs.Opens.{inputs_of}
 use Rattle.chewing_cli.specs.Refusals.{kind_of}
 use Rattle.chewing_cli.specs.Runs.{EndsOpened}

@@ -4,7 +4,7 @@ use Rattle.std.specs.Arc.{arc_value}
 use Rattle.std.proofs.lemmas.Result.{IfErr-at_err}
 use Rattle.chew_spec_dictionary.specs.Call.{Freeze, Frozen, Install, Installed}
 use Rattle.chew_spec_layers.specs.Layers.{Waiting}
-use Rattle.chew_spec_cell.specs.Seen.{HasSeen}
+use Rattle.chew_spec_cell.specs.Sight.{HasSeen}
 use Rattle.chew_spec_rounds.specs.Round as spec
 use Rattle.chew_spec_rounds.specs.Round.{IsRound}
 use Rattle.chew_checkpoint.specs.Answers.{round_of}

@@ -4,7 +4,7 @@ use Rattle.std.specs.Arc.{arc_value}
 use Rattle.std.proofs.lemmas.Result.{err_from_is_err_and}
 use Rattle.chew_spec_layers.specs.Overlay.{overlay}
 use Rattle.chew_spec_slots.specs.Slot.{Saved}
-use Rattle.chew_spec_rounds.specs.Written.{WritesCheckpoint}
+use Rattle.chew_spec_rounds.specs.WriteSteps.{WritesCheckpoint}
 use Rattle.chew_checkpoint.proofs.Writing.{nothing-written, same-fault}
 use Rattle.chew_checkpoint.proofs.checkpointer.Checkpointer.save.Goals as goal
 

@@ -4,7 +4,7 @@ use Rattle.std.proofs.lemmas.Result.{err_from_is_err_and}
 use Rattle.chew_spec_slots.specs.Fits.{Fits}
 use Rattle.chew_spec_slots.specs.Keep.{Keep}
 use Rattle.chew_spec_slots.specs.Slot.{Checkpoint, Saved}
-use Rattle.chew_spec_rounds.specs.Written.{WritesCheckpoint}
+use Rattle.chew_spec_rounds.specs.WriteSteps.{WritesCheckpoint}
 use Rattle.chew_checkpoint.proofs.Writing.{done-write, failed-write, nothing-written}
 use Rattle.chew_checkpoint.proofs.checkpointer.Checkpointer.write.Goals as goal
 

@@ -1,7 +1,7 @@
 -- The greatest of the visible rows of the key.
 use Rattle.std.proofs.Common.{ap, ◌∙◌, ◌+◌, ◌≤◌, length, subst, List, ℕ}
 use Rattle.chew_plain.specs.Look.{interval}
-use Rattle.chew_layers.specs.Shown.{greatest_of_shown}
+use Rattle.chew_layers.specs.GreatestFrequency.{greatest_of_shown}
 use Rattle.chew_layers.proofs.Saying.{key_short}
 use Rattle.chew_layers.proofs.Shown.{most_shown}
 use Rattle.chew_layers.proofs.held.Held.greatest_shown.Goals as goal

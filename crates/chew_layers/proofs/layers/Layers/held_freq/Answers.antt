@@ -3,7 +3,7 @@ use Rattle.std.proofs.Common.{◌≡◌, ◌-◌, List, max, ap, sym, ◌∙◌,
 use Rattle.std.proofs.lemmas.Bool.{cond-true}
 use Rattle.chew_spec_syllable.specs.Row.{Row}
 use Rattle.chew_spec_dictionary.specs.Dictionary.{first_freq, relearned_freq}
-use Rattle.chew_spec_dictionary.specs.Hidden.{is_hidden, shown_rows}
+use Rattle.chew_spec_dictionary.specs.HiddenPairs.{is_hidden, shown_rows}
 use Rattle.chew_spec_dictionary.specs.System.{peak_of}
 use Rattle.chew_spec_layers.specs.Layers.{Layers, dictionary_in}
 use Rattle.chew_plain.proofs.Outcomes.{held_next}

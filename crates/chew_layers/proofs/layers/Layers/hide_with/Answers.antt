@@ -1,7 +1,7 @@
 -- The mark is that of the hide.
 use Rattle.std.proofs.Common.{ap, sym, ◌∙◌, List, length}
 use Rattle.chew_spec_syllable.specs.Row.{Row}
-use Rattle.chew_spec_dictionary.specs.Hidden.{hidden_time}
+use Rattle.chew_spec_dictionary.specs.HiddenPairs.{hidden_time}
 use Rattle.chew_spec_layers.specs.Layers.{Layers}
 use Rattle.chew_plain.specs.Call.{call_of}
 use Rattle.chew_layers.proofs.Calls.{hidden_map, hidden_more, hidden_stands}

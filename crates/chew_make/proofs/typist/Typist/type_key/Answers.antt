@@ -4,7 +4,7 @@ use Rattle.chew_spec_editor.specs.Keys.{press}
 use Rattle.chew_spec_editor.specs.Press.{Done, Ask}
 use Rattle.chew_script.specs.Keys.{key_of}
 use Rattle.chew_editor.specs.Pressed.{pressed_of}
-use Rattle.chew_make.specs.Counted.{tally_of}
+use Rattle.chew_make.specs.Counts.{tally_of}
 use Rattle.chew_make.proofs.Counting.{key_asked, key_done}
 use Rattle.chew_make.proofs.typist.Typist.type_key.Goals as goal
 

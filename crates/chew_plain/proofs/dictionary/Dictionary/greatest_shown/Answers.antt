@@ -2,7 +2,7 @@
 use Rattle.std.proofs.Common.{ap, ◌∙◌, List}
 use Rattle.chew_spec_syllable.specs.Row.{Row}
 use Rattle.chew_spec_dictionary.specs.Dictionary.{Dictionary}
-use Rattle.chew_spec_dictionary.specs.Hidden.{shown_rows}
+use Rattle.chew_spec_dictionary.specs.HiddenPairs.{shown_rows}
 use Rattle.chew_spec_dictionary.specs.System.{greatest, peak_of}
 use Rattle.chew_plain.proofs.Outcomes.{shown_under}
 use Rattle.chew_plain.proofs.dictionary.Dictionary.greatest_shown.Goals as goal

@@ -2,7 +2,7 @@
 use Rattle.std.proofs.Common.{◌-◌, ap, ap₂, sym, ◌∙◌, rules}
 use Rattle.chew_spec_syllable.specs.Row.{Row}
 use Rattle.chew_spec_dictionary.specs.Dictionary.{Dictionary}
-use Rattle.chew_spec_dictionary.specs.Hidden.{shown_rows}
+use Rattle.chew_spec_dictionary.specs.HiddenPairs.{shown_rows}
 use Rattle.chew_spec_dictionary.specs.System.{peak_of}
 use Rattle.chew_spec_dictionary.specs.Frequency.{update}
 use Rattle.chew_plain.proofs.Outcomes.{held_next}

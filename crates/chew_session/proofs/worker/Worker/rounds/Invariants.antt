@@ -1,7 +1,7 @@
 -- The rounds so far, and where they led.
 use Rattle.std.proofs.Common.{◌≡◌, map}
 use Rattle.arrayvec.specs.ArrayVec.{array_vec_len}
-use Rattle.chew_spec_shared.specs.Asked.{IsOf}
+use Rattle.chew_spec_shared.specs.SharedCalls.{IsOf}
 use Rattle.chew_checkpoint.specs.Answers.{round_of}
 use Rattle.chew_session.specs.Saving.{MakeAll, stage}
 use Rattle.chew_session.proofs.worker.Worker.rounds.Given as goal

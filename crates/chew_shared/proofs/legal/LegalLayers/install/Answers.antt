@@ -4,7 +4,7 @@ use Rattle.std.specs.Arc.{arc_value}
 use Rattle.chew_spec_dictionary.specs.Call.{Install}
 use Rattle.chew_spec_dictionary.specs.History.{Entry}
 use Rattle.chew_spec_layers.specs.Layers.{Layers}
-use Rattle.chew_spec_cell.specs.Seen.{HasSeen}
+use Rattle.chew_spec_cell.specs.Sight.{HasSeen}
 use Rattle.chew_spec_shared.specs.Snapshot.{waiting_after}
 use Rattle.chew_spec_shared.proofs.Layered.{merge-held}
 use Rattle.chew_shared.proofs.Legality.{install-both, installed-legal, merge-still, waits-still}

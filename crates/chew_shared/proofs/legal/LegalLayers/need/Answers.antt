@@ -2,7 +2,7 @@
 use Rattle.std.proofs.Common.{sym, subst}
 use Rattle.chew_spec_layers.specs.Layers.{Layers}
 use Rattle.chew_spec_layers.specs.Need.{Need}
-use Rattle.chew_spec_shared.specs.Needed.{IsNeed}
+use Rattle.chew_spec_shared.specs.Needs.{IsNeed}
 use Rattle.chew_spec_shared.proofs.Layered.{need-held}
 use Rattle.chew_layers.specs.Need.{meaning_of}
 use Rattle.chew_shared.proofs.legal.LegalLayers.need.Goals as goal

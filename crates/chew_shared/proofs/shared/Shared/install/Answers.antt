@@ -5,7 +5,7 @@ use Rattle.chew_spec_dictionary.specs.Call.{Install, Installed}
 use Rattle.chew_spec_dictionary.specs.Dictionary.{Dictionary}
 use Rattle.chew_spec_dictionary.specs.History.{Entry}
 use Rattle.chew_spec_cell.specs.Pass.{Cell}
-use Rattle.chew_spec_cell.specs.Seen.{HasSeen}
+use Rattle.chew_spec_cell.specs.Sight.{HasSeen}
 use Rattle.chew_spec_shared.specs.Snapshot.{IsMerge, waiting_after}
 use Rattle.chew_shared.proofs.Turns.{asked}
 use Rattle.chew_shared.proofs.shared.Shared.install.Goals as goal

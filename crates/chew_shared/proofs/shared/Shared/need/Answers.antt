@@ -3,7 +3,7 @@ use Rattle.std.proofs.Common.{List, ap, ◌∙◌, sym, subst}
 use Rattle.chew_spec_dictionary.specs.Dictionary.{Dictionary}
 use Rattle.chew_spec_dictionary.specs.History.{Entry}
 use Rattle.chew_spec_cell.specs.Pass.{Cell}
-use Rattle.chew_spec_shared.specs.Needed.{IsNeed}
+use Rattle.chew_spec_shared.specs.Needs.{IsNeed}
 use Rattle.chew_layers.specs.Need.{meaning_of}
 use Rattle.chew_shared.proofs.shared.Shared.need.Goals as goal
 

@@ -2,7 +2,7 @@
 use Rattle.std.proofs.Common.{refl}
 use Rattle.std.specs.Char.{encode_utf8}
 use Rattle.std.specs.Str.{chars}
-use Rattle.chew_spec_preedit.specs.Shown.{characters_of}
+use Rattle.chew_spec_preedit.specs.ShownText.{characters_of}
 use Rattle.chew_spec_preedit.proofs.laws.shown.known_shown.Goals as goal
 
 pub returns-clause-parted : goal.returns-clause-parted

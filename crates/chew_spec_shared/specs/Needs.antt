@@ -3,7 +3,7 @@ use Rattle.std.specs.Prelude.{◌≡◌, ℕ, true, false, List, length, None, S
 use Rattle.chew_spec_dictionary.specs.Dictionary.{Dictionary}
 use Rattle.chew_spec_dictionary.specs.History.{Entry, start_of}
 use Rattle.chew_spec_layers.specs.Need.{Need, Waiting, Fresh, Nothing}
-use Rattle.chew_spec_layers.specs.Touched.{touched}
+use Rattle.chew_spec_layers.specs.Touches.{touched}
 use Rattle.chew_spec_shared.specs.Snapshot.{installed_after, waiting_after}
 
 -- some pair was touched since the installed entries, and none was

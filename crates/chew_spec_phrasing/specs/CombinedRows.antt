@@ -3,7 +3,7 @@ use Rattle.std.specs.Prelude.{ℕ, Bool, false, not, ◌&&◌, List, ◌++◌, m
 use Rattle.std.specs.List.{list_any}
 use Rattle.chew_spec_syllable.specs.Row.{Row}
 use Rattle.chew_spec_dictionary.specs.Call.{Hit}
-use Rattle.chew_spec_dictionary.specs.Hidden.{hidden_time, shown_rows}
+use Rattle.chew_spec_dictionary.specs.HiddenPairs.{hidden_time, shown_rows}
 use Rattle.chew_spec_dictionary.specs.Look.{Interval, intervals, codes_at, shown_cmp}
 pub use Rattle.chew_spec_dictionary.specs.Look.{shown_hit_cmp}
 use Rattle.chew_spec_dictionary.specs.Order.{in_order}
