@@ -47,7 +47,8 @@ total f (v ∷ views) = f v + total f views
 pub record Fits (about : Dictionary × ℕ) (c : Course) (seat : ℕ) (v : View) : Type 0 where
   pub about_is : v.spent ≡ false → v.about ≡ about
   pub sight : IsSightOf c.history v.sight
-  pub olds : (k : ℕ) (old : Sight) → get_elem? v.olds k ≡ maybe.some old → IsSightOf c.history old × ((who : ℕ) → Contains old.numbers who → Contains v.sight.numbers who)
+  pub olds : (k : ℕ) (old : Sight) → get_elem? v.olds k ≡ maybe.some old
+      → IsSightOf c.history old × ((who : ℕ) → Contains old.numbers who → Contains v.sight.numbers who)
   pub owns : (who : ℕ) → Contains v.sight.numbers who → (who < c.made) × (c.seat_of who ≡ seat)
   pub numbered : tickets v ≤ numbers v
   pub waits : (ticket : ℕ) → v.ticket ≡ Some ticket → (c.served ≤ ticket) × (ticket < c.drawn) × (c.seat_with ticket ≡ seat)

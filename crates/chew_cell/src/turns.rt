@@ -80,7 +80,12 @@ impl<S: Chronicle> Turnstile<S> {
         requires entries { IsTurned seat.old.me.0.sight grown (carried_entries S.entries seat.old.me.1) }
         requires short { length (carried_entries S.entries seat.old.me.1) < 2 ^ 64 }
         ensures cell { seat.new.table_id ≡ seat.old.table_id }
-        ensures seen { seat.new.me ≡ (in_turn seat.old.me.0.about (sight_of (carried_entries S.entries seat.old.me.1) seat.old.me.0.sight.numbers) (ticket_of seat.old.me.0), seat.old.me.1) }
+        ensures seen { seat.new.me
+            ≡ (
+              in_turn seat.old.me.0.about (sight_of (carried_entries S.entries seat.old.me.1) seat.old.me.0.sight.numbers)
+                  (ticket_of seat.old.me.0),
+              seat.old.me.1,
+            ) }
     {
         if grown {
             self.table.shared.fetch_add::<Add>(seat, COUNT, 1);

@@ -114,7 +114,10 @@ impl Checkpointer {
         ensures is_disk { D.told disk.old ≡ true → IsDisk (D.state disk.old) → IsDisk (D.state disk.new) }
         ensures writes { D.told disk.old ≡ true → Fits self.old (D.state disk.old) →
             WritesCheckpoint self.old (D.state disk.old) self.new (D.state disk.new)
-            (record { seq = self.old.seq + 1; checkpoint = record { life = snapshot.now.life; rows = overlay (arc_value snapshot.now.base) (arc_value snapshot.now.frozen) } }) result }
+            (record {
+              seq = self.old.seq + 1;
+              checkpoint = record { life = snapshot.now.life; rows = overlay (arc_value snapshot.now.base) (arc_value snapshot.now.frozen) };
+            }) result }
     {
         let map = merged(alloc, snapshot)?;
         self.write(alloc, disk, &*map, snapshot.life)?;

@@ -12,7 +12,8 @@ use std::alloc::Global;
 
 /// Reads an input, up to a byte past 64 MiB.
 pub(crate) fn read_input<I: Source>(alloc: Global, from: &mut I) -> Result<Vec<u8>, Refusal>
-    ensures { GivesOrNoMemory itself (watched (I.left from.old) (I.left from.new) (I.faults from.old) (I.faults from.new)) (outcome_of (λ bytes. bytes.items) result) }
+    ensures { GivesOrNoMemory itself (watched (I.left from.old) (I.left from.new) (I.faults from.old) (I.faults from.new))
+        (outcome_of (λ bytes. bytes.items) result) }
 {
     match read_up_to(alloc, from, SYSTEM_LIMIT) {
         Ok(text) => Ok(text),

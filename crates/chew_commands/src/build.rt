@@ -34,7 +34,8 @@ pub fn build_call<I: Source, O: Sink>(alloc: Global, from: &mut I, sink: &mut O)
 
 /// The image of the text that a source gives.
 fn image_from<I: Source>(alloc: Global, from: &mut I) -> Result<Vec<u8>, Refusal>
-    ensures { GivesOrNoMemory image_of_text (watched (I.left from.old) (I.left from.new) (I.faults from.old) (I.faults from.new)) (outcome_of (λ bytes. bytes.items) result) }
+    ensures { GivesOrNoMemory image_of_text (watched (I.left from.old) (I.left from.new) (I.faults from.old) (I.faults from.new))
+        (outcome_of (λ bytes. bytes.items) result) }
 {
     match read_input(alloc, from) {
         Ok(text) => image_of_text(alloc, text.as_slice()),

@@ -47,7 +47,8 @@ pub fn dump_call<I: Source, O: Sink>(alloc: Global, from: &mut I, sink: &mut O) 
 
 /// The numbers of the image that a source gives.
 fn counts_from<I: Source>(alloc: Global, from: &mut I) -> Result<Vec<u8>, Refusal>
-    ensures { GivesOrNoMemory check_of (watched (I.left from.old) (I.left from.new) (I.faults from.old) (I.faults from.new)) (outcome_of (λ bytes. bytes.items) result) }
+    ensures { GivesOrNoMemory check_of (watched (I.left from.old) (I.left from.new) (I.faults from.old) (I.faults from.new))
+        (outcome_of (λ bytes. bytes.items) result) }
 {
     match read_input(alloc, from) {
         Ok(bytes) => counts_of(alloc, bytes),
@@ -83,7 +84,8 @@ fn counts_line(alloc: Global, trie: &Trie) -> Result<Vec<u8>, NoMemory>
 
 /// The text of the image that a source gives.
 fn text_from<I: Source>(alloc: Global, from: &mut I) -> Result<Vec<u8>, Refusal>
-    ensures { GivesOrNoMemory dump_of (watched (I.left from.old) (I.left from.new) (I.faults from.old) (I.faults from.new)) (outcome_of (λ bytes. bytes.items) result) }
+    ensures { GivesOrNoMemory dump_of (watched (I.left from.old) (I.left from.new) (I.faults from.old) (I.faults from.new))
+        (outcome_of (λ bytes. bytes.items) result) }
 {
     match read_input(alloc, from) {
         Ok(bytes) => text_of(alloc, bytes),

@@ -28,7 +28,8 @@ pub(crate) fn window_at<L: Lexicon>(
     requires one { 1 ≤ per_page }
     requires ten { per_page ≤ 10 }
     ensures { IfOk result (λ window. window ≡ window_of_lists per_page place
-        (candidate_lists (combined_hits (L.rows system.now) run.now.codes hits.now) (breaks_in run.now preedit.now.breaks) (length run.now.codes) (place - run.now.start))) }
+        (candidate_lists (combined_hits (L.rows system.now) run.now.codes hits.now)
+        (breaks_in run.now preedit.now.breaks) (length run.now.codes) (place - run.now.start))) }
 {
     let lists = lists_at(alloc, system, preedit, run, hits, place - run.start)?;
     if lists.is_empty() {

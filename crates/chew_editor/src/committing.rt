@@ -49,7 +49,8 @@ pub(crate) fn press_enter<L: Lexicon>(
 fn all_changes<L: Lexicon>(alloc: Global, state: &State, system: &L) -> Result<Changes, NoMemory>
     requires { IsTrue (is_editor (state_of state.now)) }
     ensures calls { IfOk result (λ changes. map call_of changes.calls.items
-        ≡ (if state.now.typing.settings.learn then learns (L.rows system.now) state.now.typing.preedit.cells state.now.typing.preedit.breaks state.now.pieces.items else [])) }
+        ≡ (if state.now.typing.settings.learn
+        then learns (L.rows system.now) state.now.typing.preedit.cells state.now.typing.preedit.breaks state.now.pieces.items else [])) }
     ensures commit { IfOk result (λ changes. changes.commit ≡ shown_text (state_of state.now)) }
     ensures note { IfOk result (λ changes. note_of changes.note ≡ Quiet) }
 {
@@ -66,7 +67,8 @@ fn all_changes<L: Lexicon>(alloc: Global, state: &State, system: &L) -> Result<C
 fn all_learns<L: Lexicon>(alloc: Global, state: &State, system: &L) -> Result<Vec<Call>, NoMemory>
     requires { IsTrue (is_editor (state_of state.now)) }
     ensures { IfOk result (λ calls. map call_of calls.items
-        ≡ (if state.now.typing.settings.learn then learns (L.rows system.now) state.now.typing.preedit.cells state.now.typing.preedit.breaks state.now.pieces.items else [])) }
+        ≡ (if state.now.typing.settings.learn
+        then learns (L.rows system.now) state.now.typing.preedit.cells state.now.typing.preedit.breaks state.now.pieces.items else [])) }
 {
     if !state.typing.settings.is_learning() {
         return Ok(Vec::new(alloc));

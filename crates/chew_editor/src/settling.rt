@@ -63,7 +63,8 @@ pub(crate) fn relay(
     note: Note,
 ) -> Result<Outcome, (State, NoMemory)>
     ensures ok { IfOk result (λ outcome. outcome_of outcome
-        ≡ Done (record (state_of state) { layout = layout_of layout }) (editor.line_of (record (state_of state) { layout = layout_of layout }) [] (note_of note))) }
+        ≡ Done (record (state_of state) { layout = layout_of layout })
+        (editor.line_of (record (state_of state) { layout = layout_of layout }) [] (note_of note))) }
     ensures kept { IfErr result (λ refused. refused.0 ≡ state) }
 {
     let typing = state.typing.with_layout(layout);

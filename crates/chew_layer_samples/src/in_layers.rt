@@ -150,7 +150,8 @@ impl InLayers {
     /// Has the snapshot that waits merged and installed. Whether one waited.
     pub fn install(&mut self) -> Result<bool, NoMemory>
         ensures waited { IfOk result (λ waited. waited ≡ is_some self.old.frozen) }
-        ensures ok { OnOk result ((waiting : Waiting) → self.old.frozen ≡ Some waiting → self.new ≡ installed_by self.old 0 waiting (overlay self.old.base waiting.marks)) }
+        ensures ok { OnOk result ((waiting : Waiting) → self.old.frozen ≡ Some waiting
+            → self.new ≡ installed_by self.old 0 waiting (overlay self.old.base waiting.marks)) }
         ensures none { OnOk result (self.old.frozen ≡ None → self.new ≡ self.old) }
         ensures err { OnErr result (self.new ≡ self.old) }
     {

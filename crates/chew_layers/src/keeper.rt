@@ -24,7 +24,8 @@ impl Layers {
     pub fn freeze(&mut self, who: u32) -> Result<Snapshot, NoMemory>
         ensures ok { OnOk result (self.new ≡ frozen_by self.old who) }
         ensures base { IfOk result (λ snapshot. arc_value snapshot.base ≡ self.new.base) }
-        ensures frozen { IfOk result (λ snapshot. self.new.frozen ≡ Some (record { marks = arc_value snapshot.frozen; number = snapshot.upto; life = snapshot.life })) }
+        ensures frozen { IfOk result
+            (λ snapshot. self.new.frozen ≡ Some (record { marks = arc_value snapshot.frozen; number = snapshot.upto; life = snapshot.life })) }
         ensures stands { StandForMap self.new }
         ensures few { length (map_in self.new) ≤ 200_000 }
         ensures below { length (overlay self.new.base (frozen_marks self.new.frozen)) ≤ 200_000 }

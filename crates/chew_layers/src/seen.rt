@@ -36,7 +36,8 @@ pub(crate) fn visible_hits(
     start: u8,
 ) -> Result<Vec<Hit>, NoMemory>
     requires inside { start + length key.now ≤ 39 }
-    ensures { IfOk result (λ hits. hits.items ≡ map (hit_of (interval start (length key.now))) (visible_rows held.entry.base.now held.entry.frozen.now held.entry.fresh.now key.now)) }
+    ensures { IfOk result (λ hits. hits.items
+        ≡ map (hit_of (interval start (length key.now))) (visible_rows held.entry.base.now held.entry.frozen.now held.entry.fresh.now key.now)) }
 {
     let mut hits = Vec::new(alloc);
     push_base(&mut hits, held, key, start)?;
@@ -48,7 +49,8 @@ pub(crate) fn visible_hits(
 /// Adds the rows of the base.
 fn push_base(hits: &mut Vec<Hit>, held: Held<'_>, key: &Key, start: u8) -> Result<(), NoMemory>
     requires inside { start + length key.now ≤ 39 }
-    ensures { OnOk result (hits.new.items ≡ hits.old.items ++ map (hit_of (interval start (length key.now))) (base_rows held.entry.base.now held.entry.frozen.now held.entry.fresh.now key.now)) }
+    ensures { OnOk result (hits.new.items
+        ≡ hits.old.items ++ map (hit_of (interval start (length key.now))) (base_rows held.entry.base.now held.entry.frozen.now held.entry.fresh.now key.now)) }
 {
     let base = held.base;
     let _total = base.total();
@@ -70,7 +72,11 @@ fn push_row(
     requires inside { start + length key.now ≤ 39 }
     requires pair { IsTrue (is_pair key.now row.phrase.now) }
     requires range { row.freq ≤ 99_999_999 }
-    ensures { OnOk result (hits.new.items ≡ hits.old.items ++ map (hit_of (interval start (length key.now))) (unmarked_rows (unmarked_rows (record { key = key.now; phrase = row.entry.phrase.now; freq = row.entry.freq; time = row.entry.time } ∷ []) held.entry.frozen.now) held.entry.fresh.now)) }
+    ensures { OnOk result (hits.new.items
+        ≡ hits.old.items ++ map (hit_of (interval start (length key.now)))
+        (unmarked_rows (unmarked_rows
+        (record { key = key.now; phrase = row.entry.phrase.now; freq = row.entry.freq; time = row.entry.time } ∷ [])
+        held.entry.frozen.now) held.entry.fresh.now)) }
 {
     let phrase = Phrase::of(row.phrase);
     if is_marked(held.frozen, key, &phrase) {
@@ -111,7 +117,9 @@ fn push_marked(
     requires inside { start + length key.now ≤ 39 }
     requires key { marked.key.now ≡ key.now }
     requires proper { IsTrue (is_proper_mark (marked_of marked.key.now marked.phrase.now marked.mark)) }
-    ensures { OnOk result (hits.new.items ≡ hits.old.items ++ map (hit_of (interval start (length key.now))) (unmarked_rows (live_rows (marked_of marked.entry.key.now marked.entry.phrase.now marked.entry.mark ∷ [])) newer.now)) }
+    ensures { OnOk result (hits.new.items
+        ≡ hits.old.items ++ map (hit_of (interval start (length key.now)))
+        (unmarked_rows (live_rows (marked_of marked.entry.key.now marked.entry.phrase.now marked.entry.mark ∷ [])) newer.now)) }
 {
     if is_marked(newer, key, marked.phrase) {
         return Ok(());
@@ -135,7 +143,8 @@ fn push_live(hits: &mut Vec<Hit>, key: &Key, marked: MarkRef<'_>, start: u8) -> 
     requires inside { start + length key.now ≤ 39 }
     requires key { marked.key.now ≡ key.now }
     requires proper { IsTrue (is_proper_mark (marked_of marked.key.now marked.phrase.now marked.mark)) }
-    ensures { OnOk result (hits.new.items ≡ hits.old.items ++ map (hit_of (interval start (length key.now))) (live_rows (marked_of marked.entry.key.now marked.entry.phrase.now marked.entry.mark ∷ []))) }
+    ensures { OnOk result (hits.new.items ≡ hits.old.items
+        ++ map (hit_of (interval start (length key.now))) (live_rows (marked_of marked.entry.key.now marked.entry.phrase.now marked.entry.mark ∷ []))) }
 {
     match marked.mark {
         Mark::Live { freq, time } => {

@@ -109,7 +109,8 @@ impl<'a> Overlaid<'a> {
 
     /// The first row of both together, which is left out from then on.
     fn take(&mut self) -> Option<KeyRow>
-        ensures { MatchOption result ((rows_together self.old ≡ []) × (rows_together self.new ≡ [])) (λ row. rows_together self.old ≡ row ∷ rows_together self.new) }
+        ensures { MatchOption result ((rows_together self.old ≡ []) × (rows_together self.new ≡ []))
+            (λ row. rows_together self.old ≡ row ∷ rows_together self.new) }
     {
         'merging: while let Some(mark) = self.first_mark() {
             if let Some(row) = self.step(mark) {

@@ -35,7 +35,9 @@ pub(crate) fn first_row<L: Lexicon>(
     requires few { at.len ≤ 11 }
     requires firsts { All (IsKnown (L.rows system.now)) firsts.old.items }
     ensures firsts { OnOk result (All (IsKnown (L.rows system.now)) firsts.new.items) }
-    ensures first { IfOk result (λ first. IsLeast (keeps choices.now at) (map as_shown (filter is_shown found.now) ++ map (shown_hit at) (filter (is_free_of found.now) (rows_of (L.rows system.now) key.now))) first) }
+    ensures first { IfOk result
+        (λ first. IsLeast (keeps choices.now at)
+        (map as_shown (filter is_shown found.now) ++ map (shown_hit at) (filter (is_free_of found.now) (rows_of (L.rows system.now) key.now))) first) }
 {
     let first = first_found(found, choices, at);
     let places = system.places(key);
@@ -70,7 +72,8 @@ fn walk<L: Lexicon>(
     requires key { (key : List ℕ) × AreOfKey (L.rows system.now) start end key × (length key ≡ at.len) }
     requires some { 1 ≤ at.len }
     requires few { at.len ≤ 11 }
-    ensures { (before : List dictionary.Hit) → IsLeast (keeps choices.now at) before first → IsLeast (keeps choices.now at) (before ++ map (shown_hit at) (filter (is_free_of found.now) (rows_between (L.rows system.now) start end))) result }
+    ensures { (before : List dictionary.Hit) → IsLeast (keeps choices.now at) before first
+        → IsLeast (keeps choices.now at) (before ++ map (shown_hit at) (filter (is_free_of found.now) (rows_between (L.rows system.now) start end))) result }
 {
     let mut best = first;
     for i in 0..end - start {
@@ -93,7 +96,8 @@ fn first_found(found: &[Hit], choices: &[Choice], at: Interval) -> Option<Hit>
 
 /// Takes a hit for the first, where it is shown, comes before the first so far and keeps the choices.
 fn offer_hit(first: &mut Option<Hit>, hit: &Hit, choices: &[Choice], at: Interval)
-    ensures { (before : List dictionary.Hit) → IsLeast (keeps choices.now at) before first.old → IsLeast (keeps choices.now at) (before ++ found_one hit.now) first.new }
+    ensures { (before : List dictionary.Hit) → IsLeast (keeps choices.now at) before first.old
+        → IsLeast (keeps choices.now at) (before ++ found_one hit.now) first.new }
 {
     if !is_shown(hit) {
         return;
@@ -122,7 +126,8 @@ fn offer_row(
     requires some { 1 ≤ at.len }
     requires few { at.len ≤ 11 }
     requires freq { freq ≤ 99_999_999 }
-    ensures { (before : List dictionary.Hit) → IsLeast (keeps choices.now at) before first.old → IsLeast (keeps choices.now at) (before ++ free_one found.now at phrase.now freq) first.new }
+    ensures { (before : List dictionary.Hit) → IsLeast (keeps choices.now at) before first.old
+        → IsLeast (keeps choices.now at) (before ++ free_one found.now at phrase.now freq) first.new }
 {
     if !comes_before(phrase, freq, first) {
         return;

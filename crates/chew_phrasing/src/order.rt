@@ -56,7 +56,8 @@ pub(crate) fn pieces_of(
     entry: Entry,
 ) -> Result<Vec<Piece>, NoMemory>
     requires order { (order : List spec.Piece) × Stands (piece_in grid.now) levels.now grid.now.cells grid.now.cells entry order }
-    ensures { IfOk result (λ pieces. (order : List spec.Piece) → Stands (piece_in grid.now) levels.now grid.now.cells grid.now.cells entry order → pieces.items ≡ order) }
+    ensures { IfOk result (λ pieces. (order : List spec.Piece)
+        → Stands (piece_in grid.now) levels.now grid.now.cells grid.now.cells entry order → pieces.items ≡ order) }
 {
     let mut pieces = Vec::new(alloc);
     let mut left = grid.cells();

@@ -37,7 +37,8 @@ fn best_entry(grid: &Grid, levels: &[Level]) -> Entry
     requires all { length levels.now ≡ grid.now.cells + 1 }
     requires table { IsTable (piece_in grid.now) grid.now.cells levels.now }
     ensures one { IsOfRun (piece_in grid.now) levels.now grid.now.cells result }
-    ensures best { (order : List spec.Piece) → Stands (piece_in grid.now) levels.now grid.now.cells grid.now.cells result order → IsBest (piece_in grid.now) grid.now.cells order }
+    ensures best { (order : List spec.Piece) → Stands (piece_in grid.now) levels.now grid.now.cells grid.now.cells result order
+        → IsBest (piece_in grid.now) grid.now.cells order }
 {
     let entries = levels[grid.cells()].entries();
     let mut best = entries[0];

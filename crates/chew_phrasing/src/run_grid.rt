@@ -65,7 +65,8 @@ fn fill<L: Lexicon>(
     ensures cells { grid.new.cells ≡ grid.old.cells }
     ensures filled { OnOk result ((done : List look.Interval)
         → IsFilled (piece_at (combined_hits (L.rows system.now) run.now user.now) breaks.now choices.now) (piece_at [] breaks.now choices.now) done grid.old
-        → IsFilled (piece_at (combined_hits (L.rows system.now) run.now user.now) breaks.now choices.now) (piece_at [] breaks.now choices.now) (done ++ (at ∷ [])) grid.new) }
+        → IsFilled (piece_at (combined_hits (L.rows system.now) run.now user.now) breaks.now choices.now)
+        (piece_at [] breaks.now choices.now) (done ++ (at ∷ [])) grid.new) }
 {
     if !grid.is_free(at) {
         return Ok(());

@@ -33,7 +33,8 @@ pub trait Lexicon {
     /// The row at a place among all rows; its key is known from the place.
     fn row_at(&self, place: u32) -> RowRef<'_>
         requires { place < length (rows self.now) }
-        ensures { (key : List ℕ) × (slice_get (rows self.now) place ≡ Some (record { key = key; phrase = result.phrase.now; freq = result.freq; time = result.time })) };
+        ensures { (key : List ℕ)
+            × (slice_get (rows self.now) place ≡ Some (record { key = key; phrase = result.phrase.now; freq = result.freq; time = result.time })) };
 
     /// How many rows the key has.
     fn count(&self, key: &[Syllable]) -> u32
@@ -48,7 +49,8 @@ pub trait Lexicon {
     /// A row of the key, counted from 0 in the order of the phrases' bytes.
     fn row(&self, key: &[Syllable], i: u32) -> RowRef<'_>
         requires { i < length (rows_of (rows self.now) key.now) }
-        ensures ok { slice_get (rows_of (rows self.now) key.now) i ≡ Some (record { key = key.now; phrase = result.phrase.now; freq = result.freq; time = result.time }) }
+        ensures ok { slice_get (rows_of (rows self.now) key.now) i
+            ≡ Some (record { key = key.now; phrase = result.phrase.now; freq = result.freq; time = result.time }) }
         ensures valid { IsTrue (is_pair key.now result.phrase.now) }
         ensures freq { result.freq ≤ 99_999_999 }
     {

@@ -18,8 +18,10 @@ impl Preedit {
     pub(crate) fn kept(&self, splice: Splice) -> Kept
         requires removed { splice.from + splice.removed ≤ length self.now.cells }
         requires added { splice.added ≤ 39 }
-        ensures breaks { result.breaks.items ≡ breaks_before splice.from self.now.breaks ++ map (moved_place splice.removed splice.added) (breaks_behind (splice.from + splice.removed) self.now.breaks) }
-        ensures choices { result.choices.items ≡ choices_before splice.from self.now.choices ++ map (moved_choice splice.removed splice.added) (choices_behind (splice.from + splice.removed) self.now.choices) }
+        ensures breaks { result.breaks.items ≡ breaks_before splice.from self.now.breaks
+            ++ map (moved_place splice.removed splice.added) (breaks_behind (splice.from + splice.removed) self.now.breaks) }
+        ensures choices { result.choices.items ≡ choices_before splice.from self.now.choices
+            ++ map (moved_choice splice.removed splice.added) (choices_behind (splice.from + splice.removed) self.now.choices) }
     {
         Kept {
             breaks: splice.breaks(self.breaks.as_slice()),

@@ -33,7 +33,8 @@ impl Model for Preedit {
 
     ghost view = { λ p. record { limit = p.limit; cells = map cell_of p.cells.items; cursor = p.cursor; breaks = p.breaks.items; choices = p.choices.items } };
 
-    ghost invariant = { λ p. IsTrue (is_buffer (record { limit = p.limit; cells = map cell_of p.cells.items; cursor = p.cursor; breaks = p.breaks.items; choices = p.choices.items })) };
+    ghost invariant = { λ p. IsTrue
+        (is_buffer (record { limit = p.limit; cells = map cell_of p.cells.items; cursor = p.cursor; breaks = p.breaks.items; choices = p.choices.items })) };
 }
 
 impl Preedit {

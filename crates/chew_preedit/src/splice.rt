@@ -54,7 +54,8 @@ impl Splice {
         requires within { All (λ place. place ≤ 39) breaks.now }
         requires removed { self.from + self.removed ≤ 39 }
         requires added { self.added ≤ 39 }
-        ensures { result.items ≡ breaks_before self.from breaks.now ++ map (moved_place self.removed self.added) (breaks_behind (self.from + self.removed) breaks.now) }
+        ensures { result.items ≡ breaks_before self.from breaks.now
+            ++ map (moved_place self.removed self.added) (breaks_behind (self.from + self.removed) breaks.now) }
     {
         let mut kept = ArrayVec::new();
         self.push_breaks_before(&mut kept, breaks);
@@ -68,7 +69,8 @@ impl Splice {
         requires within { All (λ choice. choice.start ≤ 39) choices.now }
         requires removed { self.from + self.removed ≤ 39 }
         requires added { self.added ≤ 39 }
-        ensures { result.items ≡ choices_before self.from choices.now ++ map (moved_choice self.removed self.added) (choices_behind (self.from + self.removed) choices.now) }
+        ensures { result.items ≡ choices_before self.from choices.now
+            ++ map (moved_choice self.removed self.added) (choices_behind (self.from + self.removed) choices.now) }
     {
         let mut kept = ArrayVec::new();
         self.push_choices_before(&mut kept, choices);

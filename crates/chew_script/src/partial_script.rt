@@ -127,7 +127,8 @@ fn add_keys(contexts: &mut Vec<Vec<KeyStroke>>, number: u8, text: &[u8]) -> Resu
 fn open(contexts: &mut Vec<Vec<KeyStroke>>, number: u8) -> Result<(), NoMemory>
     requires { 1 ≤ number }
     ensures open { OnOk result (number ≤ length contexts.new.items) }
-    ensures same { OnOk result ((keys : List Key) → add_keys (number - 1) keys (lists_of contexts.new.items) ≡ add_keys (number - 1) keys (lists_of contexts.old.items)) }
+    ensures same { OnOk result
+        ((keys : List Key) → add_keys (number - 1) keys (lists_of contexts.new.items) ≡ add_keys (number - 1) keys (lists_of contexts.old.items)) }
 {
     'opening: while contexts.len() < usize::from(number) {
         let keys = Vec::new(*contexts.allocator());

@@ -31,7 +31,8 @@ impl Model for Script {
 /// can't be taken. Want of memory is told apart, as `NoMemory`.
 pub fn read_script(alloc: Global, text: &[u8]) -> Result<Script, ScriptFault>
     ensures ok { IfOk result (λ script. script_of text.now ≡ Ok script) }
-    ensures bad { (line : ℕ) (cause : ScriptCause) → IsErrOf result (ScriptFault.Bad line cause) → script_of text.now ≡ Err (record { line = line; cause = cause_of cause }) }
+    ensures bad { (line : ℕ) (cause : ScriptCause) → IsErrOf result (ScriptFault.Bad line cause)
+        → script_of text.now ≡ Err (record { line = line; cause = cause_of cause }) }
     ensures few_contexts { IfOk result (λ script. length script.contexts ≤ 16) }
     ensures few_keys { IfOk result (λ script. All (λ keys. length keys ≤ 65_536) script.contexts) }
     ensures few_rounds { IfOk result (λ script. script.rounds ≤ 64) }

@@ -93,7 +93,8 @@ pub record MakeAll (start : Dictionary) (told : Bool) (before : Stage) (rounds :
   pub later : told ≡ true → Later before.disk now.disk
   pub is_disk : told ≡ true → IsDisk before.disk → IsDisk now.disk
   pub untouched : rounds ≡ [] → IsUntouched before.disk now.disk
-  pub kept : (from : ℕ) (earlier : List Round) → is_legal (start_of start) now.seen ≡ true → IsKept start told from earlier before → IsKept start told from (earlier ++ rounds) now
+  pub kept : (from : ℕ) (earlier : List Round) → is_legal (start_of start) now.seen ≡ true
+      → IsKept start told from earlier before → IsKept start told from (earlier ++ rounds) now
 
 -- the keeper asked what is needed: it saw more of the history, without an entry of its own, and found this
 pub record Asks (start : Dictionary) (before : List Entry) (need : Need) (now : List Entry) : Type 0 where

@@ -30,7 +30,8 @@ pub(crate) fn ask_all<R: Wait>(
     ensures ours { IsOf shared.now result.0 }
     ensures who { result.0.who ≡ pass.who }
     ensures legal { IsTrue (is_legal (start_of shared.now.start) result.0.seen) }
-    ensures ok { IfOk result.1 (λ replies. Made (start_of shared.now.start) pass.seen result.0.seen pass.who (map call_of calls.now) (map reply_of replies.items)) }
+    ensures ok { IfOk result.1
+        (λ replies. Made (start_of shared.now.start) pass.seen result.0.seen pass.who (map call_of calls.now) (map reply_of replies.items)) }
     ensures err { OnErr result.1 (Asks (start_of shared.now.start) pass.who (map call_of calls.now) pass.seen result.0.seen) }
 {
     let mut pass = pass;
@@ -61,7 +62,9 @@ fn ask<R: Wait>(
     ensures ours { IsOf shared.now result.0 }
     ensures who { result.0.who ≡ pass.who }
     ensures legal { IsTrue (is_legal (start_of shared.now.start) result.0.seen) }
-    ensures ok { OnOk result.1 (Hears (start_of shared.now.start) pass.who (call_of call.now) pass.seen result.0.seen (map reply_of replies.old.items) (map reply_of replies.new.items)) }
+    ensures ok { OnOk result.1
+        (Hears (start_of shared.now.start) pass.who (call_of call.now) pass.seen result.0.seen
+        (map reply_of replies.old.items) (map reply_of replies.new.items)) }
     ensures err { OnErr result.1 (Made (start_of shared.now.start) pass.seen result.0.seen pass.who [] []) }
 {
     match replies.reserve(1) {

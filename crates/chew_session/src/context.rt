@@ -45,7 +45,8 @@ pub(crate) fn run_context<R: Wait, L: Lexicon, G: Gate>(
     requires pairs { IsTrue (list_all is_row shared.now.start.pairs) }
     ensures ours { IsOf shared.now result.0 }
     ensures who { result.0.who ≡ pass.who }
-    ensures ran { Ran (record { system = L.rows system.now; settings = settings.now; start = start_of shared.now.start }) pass.who (keys_of actor.now.keys.items) result.0.seen result.1 }
+    ensures ran { Ran (record { system = L.rows system.now; settings = settings.now; start = start_of shared.now.start }) pass.who
+        (keys_of actor.now.keys.items) result.0.seen result.1 }
 {
     let mut text = Vec::new(alloc);
     let (pass, handled) = type_keys(
@@ -81,7 +82,8 @@ fn type_keys<R: Wait, L: Lexicon, G: Gate>(
     requires pairs { IsTrue (list_all is_row shared.now.start.pairs) }
     ensures ours { IsOf shared.now result.0 }
     ensures who { result.0.who ≡ pass.who }
-    ensures typed { Typed (record { system = L.rows system.now; settings = settings.now; start = start_of shared.now.start }) pass.who (keys_of actor.now.keys.items) result.0.seen result.1 text.new.items }
+    ensures typed { Typed (record { system = L.rows system.now; settings = settings.now; start = start_of shared.now.start }) pass.who
+        (keys_of actor.now.keys.items) result.0.seen result.1 text.new.items }
 {
     let mut pass = pass;
     let mut editor = Editor::new(alloc, settings);

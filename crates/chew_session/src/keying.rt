@@ -52,9 +52,12 @@ pub(crate) fn handle_key<R: Wait, L: Lexicon>(
     ensures ours { IsOf shared.now result.0 }
     ensures who { result.0.who ≡ pass.who }
     ensures legal { IsTrue (is_legal (start_of shared.now.start) result.0.seen) }
-    ensures ok { IfOk result.1 (λ next. Turns (L.rows system.now) (start_of shared.now.start) pass.who (key_of key) editor next pass.seen result.0.seen text.old.items text.new.items) }
+    ensures ok { IfOk result.1
+        (λ next. Turns (L.rows system.now) (start_of shared.now.start) pass.who
+        (key_of key) editor next pass.seen result.0.seen text.old.items text.new.items) }
     ensures singles { IfOk result.1 (λ next. HasSingles (L.rows system.now) next.buffer.cells) }
-    ensures err { OnErr result.1 (Asks (start_of shared.now.start) pass.who (calls_asked (press (L.rows system.now) editor (key_of key))) pass.seen result.0.seen) }
+    ensures err { OnErr result.1
+        (Asks (start_of shared.now.start) pass.who (calls_asked (press (L.rows system.now) editor (key_of key))) pass.seen result.0.seen) }
     ensures kept { OnErr result.1 (text.new.items ≡ text.old.items) }
 {
     match press_with_room(alloc, system, text, editor, key) {
@@ -114,7 +117,8 @@ fn answer<R: Wait, L: Lexicon>(
     ensures ours { IsOf shared.now result.0 }
     ensures who { result.0.who ≡ pass.who }
     ensures legal { IsTrue (is_legal (start_of shared.now.start) result.0.seen) }
-    ensures ok { IfOk result.1 (λ next. Answered (L.rows system.now) (start_of shared.now.start) pass.who pending next pass.seen result.0.seen text.old.items text.new.items) }
+    ensures ok { IfOk result.1
+        (λ next. Answered (L.rows system.now) (start_of shared.now.start) pass.who pending next pass.seen result.0.seen text.old.items text.new.items) }
     ensures singles { IfOk result.1 (λ next. HasSingles (L.rows system.now) next.buffer.cells) }
     ensures err { OnErr result.1 (Asks (start_of shared.now.start) pass.who (calls_of pending) pass.seen result.0.seen) }
     ensures kept { OnErr result.1 (text.new.items ≡ text.old.items) }

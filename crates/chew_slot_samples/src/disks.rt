@@ -58,7 +58,8 @@ pub fn holds<D: Disk>(
     one: &[u8],
 ) -> Result<bool, SlotFault>
     ensures told { D.told disk.new ≡ D.told disk.old }
-    ensures held { D.told disk.old ≡ true → IfOk result (λ held. held ≡ (bytes_eq ((D.state disk.old).reads 0) zero.now && bytes_eq ((D.state disk.old).reads 1) one.now)) }
+    ensures held { D.told disk.old ≡ true
+        → IfOk result (λ held. held ≡ (bytes_eq ((D.state disk.old).reads 0) zero.now && bytes_eq ((D.state disk.old).reads 1) one.now)) }
     ensures same { D.told disk.old ≡ true → (each : ℕ) → (D.state disk.new).reads each ≡ (D.state disk.old).reads each }
     ensures cause { HasCause (D.faults disk.old) (D.faults disk.new) (disk_failed result) }
 {

@@ -92,7 +92,8 @@ pub fn save<D: Disk>(
 /// Whether a disk recovers to this map, and not to a refusal.
 pub fn recovers_to<D: Disk>(alloc: Global, disk: &mut D, learnt: Learnt) -> Result<bool, NoMemory>
     ensures told { D.told disk.new ≡ D.told disk.old }
-    ensures recovers { D.told disk.old ≡ true → IfOk result (λ recovers. IsTrue recovers → IsOf learnt (recovered ((D.state disk.old).reads 0) ((D.state disk.old).reads 1))) }
+    ensures recovers { D.told disk.old ≡ true
+        → IfOk result (λ recovers. IsTrue recovers → IsOf learnt (recovered ((D.state disk.old).reads 0) ((D.state disk.old).reads 1))) }
     ensures untouched { D.told disk.old ≡ true → IsUntouched (D.state disk.old) (D.state disk.new) }
 {
     match recover(alloc, disk) {
@@ -105,7 +106,8 @@ pub fn recovers_to<D: Disk>(alloc: Global, disk: &mut D, learnt: Learnt) -> Resu
 /// Why a disk is refused, if it is.
 pub fn refusal<D: Disk>(alloc: Global, disk: &mut D) -> Option<SlotFault>
     ensures told { D.told disk.new ≡ D.told disk.old }
-    ensures refused { D.told disk.old ≡ true → IfSome result (λ fault. TellsRefusal (recovered ((D.state disk.old).reads 0) ((D.state disk.old).reads 1)) fault) }
+    ensures refused { D.told disk.old ≡ true
+        → IfSome result (λ fault. TellsRefusal (recovered ((D.state disk.old).reads 0) ((D.state disk.old).reads 1)) fault) }
     ensures fine { D.told disk.old ≡ true → IfNone result (IsFine (recovered ((D.state disk.old).reads 0) ((D.state disk.old).reads 1))) }
     ensures untouched { D.told disk.old ≡ true → IsUntouched (D.state disk.old) (D.state disk.new) }
 {

@@ -66,7 +66,8 @@ pub fn recover<D: Disk>(alloc: Global, disk: &mut D) -> Result<Found, SlotFault>
 // What two slots hold that were read.
 fn newer(alloc: Global, zero: SlotRead, one: SlotRead) -> Result<Found, SlotFault>
     ensures keep { IfOk result (λ found. found.keep ≡ keep_for zero.is_shut one.is_shut (newest (reading_of zero.stored) (reading_of one.stored))) }
-    ensures state { IfOk result (λ found. checkpoint_of (newest (reading_of zero.stored) (reading_of one.stored)) ≡ record { life = found.life; rows = found.map }) }
+    ensures state { IfOk result
+        (λ found. checkpoint_of (newest (reading_of zero.stored) (reading_of one.stored)) ≡ record { life = found.life; rows = found.map }) }
     ensures memory { IfErr result (λ fault. fault ≡ SlotFault.NoMemory) }
 {
     let zero_shut = zero.is_shut;

@@ -100,7 +100,8 @@ fn read_so_many<D: Disk>(
     ensures cause { HasCause (D.faults disk.old) (D.faults disk.new) (disk_failed result) }
     ensures calls { D.told disk.old ≡ true → (D.state disk.new).moment ≤ (D.state disk.old).moment + 1 }
     ensures empty { D.told disk.old ≡ true → len ≡ 0 → (D.state disk.new).moment ≡ (D.state disk.old).moment }
-    ensures bytes { IfOk result (λ bytes. len ≡ length ((D.state disk.old).reads slot) → AreTold (D.told disk.old) ((D.state disk.old).reads slot) bytes.items) }
+    ensures bytes { IfOk result (λ bytes. len ≡ length ((D.state disk.old).reads slot)
+        → AreTold (D.told disk.old) ((D.state disk.old).reads slot) bytes.items) }
     ensures fits { IfOk result (λ bytes. length bytes.items ≤ 2 ^ 28) }
     ensures fault { IfErr result (λ fault. (recovery : Recovery) → TellsRefusal recovery fault) }
 {

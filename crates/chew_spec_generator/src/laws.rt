@@ -30,7 +30,8 @@ pub fn known_draws()
 /// The first lines of the script of 7, the last of its steps, and the first of other numbers, which a separate program
 /// worked out.
 pub fn known_lines()
-    ensures first { lines_from 2 7 ≡ codes "1:<E><L>hk4hk4hk4g4hk4g4g4<E>g4g4hk4hk4hk4g4hk4" ∷ (codes "1:hk4g4g4g4<L>hk4hk4<E>hk4hk4g4hk4hk4hk4hk4g4hk4hk4hk4g4" ∷ []) }
+    ensures first { lines_from 2 7
+        ≡ codes "1:<E><L>hk4hk4hk4g4hk4g4g4<E>g4g4hk4hk4hk4g4hk4" ∷ (codes "1:hk4g4g4g4<L>hk4hk4<E>hk4hk4g4hk4hk4hk4hk4g4hk4hk4hk4g4" ∷ []) }
     ensures last { line_of_draws (draws_from 16 (number_after 4080 7)) ≡ codes "1:hk4g4<E>g4hk4hk4g4hk4g4<L>hk4g4hk4<L>hk4g4hk4g4<E>" }
     ensures zero { lines_from 1 0 ≡ codes "1:<L>hk4hk4g4hk4g4g4hk4<L>hk4g4<L>hk4<E>hk4g4g4<E>" ∷ [] }
     ensures greatest { lines_from 1 18_446_744_073_709_551_615 ≡ codes "1:hk4<L>hk4g4hk4hk4g4hk4g4<L>hk4g4g4hk4hk4hk4<E>hk4" ∷ [] }

@@ -48,4 +48,5 @@ row_of text due fields = record { key = due.key; phrase = phrase_in text fields;
 abbrev pub read_rows : List ℕ → RowsRead → List (Due × RowFields) → Result (List Row) ℕ
 read_rows text read [] = if read.text_start == length text then Ok [] else Err 16
 read_rows text read (row ∷ rows) =
-    unless_fault (row_fault text (length row.0.key) row.0.first read row.1) (with_front (row_of text row.0 row.1 ∷ []) (read_rows text (past_row text read row.1) rows))
+    unless_fault (row_fault text (length row.0.key) row.0.first read row.1)
+    (with_front (row_of text row.0 row.1 ∷ []) (read_rows text (past_row text read row.1) rows))

@@ -155,7 +155,8 @@ pub fn combined_rows_hide()
         → mine.key ≡ key → is_hidden mine ≡ true → has_phrase (combined system user key) mine.phrase ≡ false }
     ensures phrases { (system user : List Row) (key phrase : List ℕ)
         → has_phrase (combined system user key) phrase
-        ≡ (has_phrase (shown_rows (rows_under user key)) phrase || (not (has_phrase (rows_under user key) phrase) && has_phrase (rows_under system key) phrase)) }
+        ≡ (has_phrase (shown_rows (rows_under user key)) phrase
+        || (not (has_phrase (rows_under user key) phrase) && has_phrase (rows_under system key) phrase)) }
 {}
 
 /// From what a look-up found come the combined rows of the user's dictionary itself, interval by interval. In any order

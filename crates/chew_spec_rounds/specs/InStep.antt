@@ -12,4 +12,5 @@ use Rattle.chew_spec_rounds.specs.Front.{front_checkpoint, shape_after}
 pub record IsInStep (keep : Keep) (disk : DiskState) (start : Dictionary) (seen : List Entry) : Type 0 where
   pub fits : Fits keep disk
   pub acknowledged : acknowledged_state keep disk ≡ front_checkpoint start seen (shape_after start seen).installed
-  pub left : IfSome (left_state keep disk) (λ checkpoint. IsSomeAnd (shape_after start seen).waiting (λ number. checkpoint ≡ front_checkpoint start seen number))
+  pub left : IfSome (left_state keep disk) (λ checkpoint. IsSomeAnd (shape_after start seen).waiting
+      (λ number. checkpoint ≡ front_checkpoint start seen number))

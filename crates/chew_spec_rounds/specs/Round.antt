@@ -59,7 +59,9 @@ pub record IsRound (start : Dictionary) (seen seen_then : List Entry) (disk disk
   pub calls : KeepersCalls round (calls_of more 0)
   pub is_disk : IsDisk disk_then
   pub later : Later disk disk_then
-  pub moments : AlwaysLeft disk.moment disk_then (RecoversToEither start seen_then (shape_after start seen).installed (snapshot_number round (shape_after start seen_then)))
-  pub chances : AlwaysMightLeave disk.moment (last_unsynced round disk_then.moment) disk_then (RecoversToFront start seen_then (shape_after start seen).installed)
+  pub moments : AlwaysLeft disk.moment disk_then
+      (RecoversToEither start seen_then (shape_after start seen).installed (snapshot_number round (shape_after start seen_then)))
+  pub chances : AlwaysMightLeave disk.moment (last_unsynced round disk_then.moment) disk_then
+      (RecoversToFront start seen_then (shape_after start seen).installed)
   pub saved : IfSome (saved_number round) (λ number. NowLeaves disk_then (RecoversToFront start seen_then number))
   pub now : NowLeaves disk_then (RecoversToEither start seen_then (shape_after start seen_then).installed (shape_after start seen_then).waiting)

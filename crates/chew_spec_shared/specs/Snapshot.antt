@@ -24,7 +24,8 @@ dictionary_at start seen number = (after (start_of start) (take number seen)).di
 pub record IsSnapshot (start : Dictionary) (seen : List Entry) (rows : List Row) (layer : Waiting) : Type 0 where
   pub waits : waiting_after start seen ≡ Some layer.number
   pub base : rows ≡ (dictionary_at start seen (installed_after start seen)).pairs
-  pub pairs : (key phrase : List ℕ) → is_some (mark_of layer.marks key phrase) ≡ touched (start_of start) seen (installed_after start seen) layer.number key phrase
+  pub pairs : (key phrase : List ℕ) → is_some (mark_of layer.marks key phrase)
+      ≡ touched (start_of start) seen (installed_after start seen) layer.number key phrase
   pub map : overlay rows layer.marks ≡ (dictionary_at start seen layer.number).pairs
   pub life : layer.life ≡ (dictionary_at start seen layer.number).life
 

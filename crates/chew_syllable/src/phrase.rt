@@ -61,7 +61,8 @@ fn valid_front(text: &[u8]) -> &str
 
 /// What follows the allowed character that a text begins with; `None` where it begins with none.
 fn after_allowed(text: &str) -> Option<&str>
-    ensures some { IfSome result (λ rest. (n : ℕ) → allowed_bytes (suc n) (chars text.now) ≡ (length text.now - length rest.now) + allowed_bytes n (chars rest.now)) }
+    ensures some { IfSome result
+        (λ rest. (n : ℕ) → allowed_bytes (suc n) (chars text.now) ≡ (length text.now - length rest.now) + allowed_bytes n (chars rest.now)) }
     ensures none { IfNone result ((n : ℕ) → allowed_bytes n (chars text.now) ≡ 0) }
     ensures shorter { IfSome result (λ rest. length rest.now < length text.now) }
 {

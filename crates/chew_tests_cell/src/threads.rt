@@ -53,7 +53,8 @@ pub fn crew<R: Threads + Wait + Sync>(
                 rt,
                 move || -> Vec<Pass>
                     requires { IsSync R.row × All (λ p. p.cell ≡ cell.now) passes.items }
-                    ensures { All (λ p. p.cell ≡ cell.entry.now) result.items × ((vec_len result ≡ vec_len passes) × (vec_capacity result ≡ vec_capacity passes)) }
+                    ensures { All (λ p. p.cell ≡ cell.entry.now) result.items
+                        × ((vec_len result ≡ vec_len passes) × (vec_capacity result ≡ vec_capacity passes)) }
                 { crew(rt, cell, passes, calls) },
                 move || -> Pass
                     requires { pass.cell ≡ cell.now }

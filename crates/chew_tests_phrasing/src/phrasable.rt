@@ -152,7 +152,8 @@ fn is_covered(rows: &[Hit], choices: &[Choice], cell: usize) -> bool
 /// Whether each cell of a run that no choice has has a row of its own.
 fn have_singles(rows: &[Hit], choices: &[Choice], count: usize) -> bool
     requires { count ≤ 39 }
-    ensures { IsTrue result → ((cell : ℕ) → cell < count → list_any (meets (cell_at cell)) choices.now ≡ false → list_any (is_hit_at (cell_at cell)) rows.now ≡ true) }
+    ensures { IsTrue result
+        → ((cell : ℕ) → cell < count → list_any (meets (cell_at cell)) choices.now ≡ false → list_any (is_hit_at (cell_at cell)) rows.now ≡ true) }
 {
     for cell in 0..count {
         if !is_covered(rows, choices, cell) {

@@ -57,4 +57,5 @@ pub record IsWaiting (bytes : List ℕ) (counts : Counts) (i len level_end : ℕ
   pub here : All (λ key. suc (length key) ≡ len) (take near keys)
   pub below : All (λ key. length key ≡ len) (drop near keys)
   pub children : nodes.next_child ≡ (i + length keys) + length (due_of keys (nodes_at bytes (20 + 16 * i) (length keys)))
-  pub same : image_place bytes ≡ fault_ahead bytes counts nodes fault read (due_of keys (nodes_at bytes (20 + 16 * i) (length keys))) (counts.nodes - (i + length keys))
+  pub same : image_place bytes
+      ≡ fault_ahead bytes counts nodes fault read (due_of keys (nodes_at bytes (20 + 16 * i) (length keys))) (counts.nodes - (i + length keys))

@@ -24,9 +24,11 @@ impl Model for Node {
 
     ghost Value = { spec.Node };
 
-    ghost view = { λ node. record { code = node.code; children = node.children; first_child = node.first_child; rows = node.rows; first_row = node.first_row } };
+    ghost view = { λ node.
+        record { code = node.code; children = node.children; first_child = node.first_child; rows = node.rows; first_row = node.first_row } };
 
-    ghost inverse = { λ value. record { code = value.code; children = value.children; first_child = value.first_child; rows = value.rows; first_row = value.first_row } };
+    ghost inverse = { λ value.
+        record { code = value.code; children = value.children; first_child = value.first_child; rows = value.rows; first_row = value.first_row } };
 }
 
 /// How many bytes a node has.

@@ -39,8 +39,11 @@ fn check_rows<'a>(
 ) -> Result<(), ImageFault>
     requires { read.old.place + 20 * count ≤ length parts.now.bytes.now }
     ensures place { IfOk result (λ _. read.new.place ≡ read.old.place + 20 * count) }
-    ensures ok { IfOk result (λ _. (key : List ℕ) (later : List Due) (seen : ℕ) → length key ≡ len → seen + count ≤ parts.now.counts.rows → fault_of_rows parts.now.bytes.now parts.now.counts seen read.old (due_under key count ++ later) ≡ fault_of_rows parts.now.bytes.now parts.now.counts (seen + count) read.new later) }
-    ensures err { IfErr result (λ fault. (key : List ℕ) (later : List Due) (seen : ℕ) → length key ≡ len → seen + count ≤ parts.now.counts.rows → fault_of_rows parts.now.bytes.now parts.now.counts seen read.old (due_under key count ++ later) ≡ Some fault.place) }
+    ensures ok { IfOk result (λ _. (key : List ℕ) (later : List Due) (seen : ℕ) → length key ≡ len → seen + count ≤ parts.now.counts.rows
+        → fault_of_rows parts.now.bytes.now parts.now.counts seen read.old (due_under key count ++ later)
+        ≡ fault_of_rows parts.now.bytes.now parts.now.counts (seen + count) read.new later) }
+    ensures err { IfErr result (λ fault. (key : List ℕ) (later : List Due) (seen : ℕ) → length key ≡ len → seen + count ≤ parts.now.counts.rows
+        → fault_of_rows parts.now.bytes.now parts.now.counts seen read.old (due_under key count ++ later) ≡ Some fault.place) }
 {
     for i in 0..count {
         let row = row_at(parts.bytes, read.place);
@@ -57,7 +60,9 @@ fn check_rows_behind<'a>(parts: &Parts<'a>, len: u32, count: u32, walk: &mut Wal
     requires { walk.old.fault ≡ None → walk.old.rows.place + 20 * count ≤ length parts.now.bytes.now }
     ensures nodes { walk.new.nodes ≡ walk.old.nodes }
     ensures place { walk.new.fault ≡ None → (walk.old.fault ≡ None) × (walk.new.rows.place ≡ walk.old.rows.place + 20 * count) }
-    ensures same { (key : List ℕ) (later : List Due) (seen : ℕ) → length key ≡ len → seen + count ≤ parts.now.counts.rows → fault_behind parts.now.bytes.now parts.now.counts seen walk.old.fault walk.old.rows (due_under key count ++ later) ≡ fault_behind parts.now.bytes.now parts.now.counts (seen + count) walk.new.fault walk.new.rows later }
+    ensures same { (key : List ℕ) (later : List Due) (seen : ℕ) → length key ≡ len → seen + count ≤ parts.now.counts.rows
+        → fault_behind parts.now.bytes.now parts.now.counts seen walk.old.fault walk.old.rows (due_under key count ++ later)
+        ≡ fault_behind parts.now.bytes.now parts.now.counts (seen + count) walk.new.fault walk.new.rows later }
 {
     if walk.fault.is_some() {
         return;
@@ -80,8 +85,14 @@ fn check_child<'a>(
     ensures walk { OnOk result (IsWalk parts.now.counts walk.new.nodes walk.new.fault walk.new.rows) }
     ensures place { OnOk result (walk.new.nodes.place ≡ walk.old.nodes.place + 16) }
     ensures children { OnOk result (walk.new.nodes.next_child ≡ walk.old.nodes.next_child + (node_at parts.now.bytes.now walk.old.nodes.place).children) }
-    ensures ok { OnOk result ((key : List ℕ) (later : List Due) (left : ℕ) → suc (length key) ≡ len → fault_ahead parts.now.bytes.now parts.now.counts walk.old.nodes walk.old.fault walk.old.rows (record { key = key; first = first } ∷ later) (suc left) ≡ fault_ahead parts.now.bytes.now parts.now.counts walk.new.nodes walk.new.fault walk.new.rows (later ++ due_of_children key (nodes_at parts.now.bytes.now walk.old.nodes.place 1)) left) }
-    ensures err { IfErr result (λ fault. (key : List ℕ) (later : List Due) (left : ℕ) → suc (length key) ≡ len → fault_ahead parts.now.bytes.now parts.now.counts walk.old.nodes walk.old.fault walk.old.rows (record { key = key; first = first } ∷ later) (suc left) ≡ Some fault.place) }
+    ensures ok { OnOk result ((key : List ℕ) (later : List Due) (left : ℕ) → suc (length key) ≡ len
+        → fault_ahead parts.now.bytes.now parts.now.counts walk.old.nodes walk.old.fault walk.old.rows
+        (record { key = key; first = first } ∷ later) (suc left)
+        ≡ fault_ahead parts.now.bytes.now parts.now.counts walk.new.nodes walk.new.fault walk.new.rows
+        (later ++ due_of_children key (nodes_at parts.now.bytes.now walk.old.nodes.place 1)) left) }
+    ensures err { IfErr result (λ fault. (key : List ℕ) (later : List Due) (left : ℕ) → suc (length key) ≡ len
+        → fault_ahead parts.now.bytes.now parts.now.counts walk.old.nodes walk.old.fault walk.old.rows
+        (record { key = key; first = first } ∷ later) (suc left) ≡ Some fault.place) }
 {
     let node = node_at(parts.bytes, walk.nodes.place);
     match walk.nodes.check_node(&parts.counts, len, first, &node) {
@@ -105,9 +116,14 @@ fn check_children<'a>(
     requires within { walk.old.nodes.place + 16 * count ≤ rows_place parts.now.counts }
     ensures walk { OnOk result (IsWalk parts.now.counts walk.new.nodes walk.new.fault walk.new.rows) }
     ensures place { OnOk result (walk.new.nodes.place ≡ walk.old.nodes.place + 16 * count) }
-    ensures children { OnOk result (walk.new.nodes.next_child ≡ walk.old.nodes.next_child + sum_by (λ node. node.children) (nodes_at parts.now.bytes.now walk.old.nodes.place count)) }
-    ensures ok { OnOk result ((key : List ℕ) (later : List Due) (left : ℕ) → suc (length key) ≡ len → count ≤ left → fault_ahead parts.now.bytes.now parts.now.counts walk.old.nodes walk.old.fault walk.old.rows (due_under key count ++ later) left ≡ fault_ahead parts.now.bytes.now parts.now.counts walk.new.nodes walk.new.fault walk.new.rows (later ++ due_of_children key (nodes_at parts.now.bytes.now walk.old.nodes.place count)) (left - count)) }
-    ensures err { IfErr result (λ fault. (key : List ℕ) (later : List Due) (left : ℕ) → suc (length key) ≡ len → count ≤ left → fault_ahead parts.now.bytes.now parts.now.counts walk.old.nodes walk.old.fault walk.old.rows (due_under key count ++ later) left ≡ Some fault.place) }
+    ensures children { OnOk result
+        (walk.new.nodes.next_child ≡ walk.old.nodes.next_child + sum_by (λ node. node.children) (nodes_at parts.now.bytes.now walk.old.nodes.place count)) }
+    ensures ok { OnOk result ((key : List ℕ) (later : List Due) (left : ℕ) → suc (length key) ≡ len → count ≤ left
+        → fault_ahead parts.now.bytes.now parts.now.counts walk.old.nodes walk.old.fault walk.old.rows (due_under key count ++ later) left
+        ≡ fault_ahead parts.now.bytes.now parts.now.counts walk.new.nodes walk.new.fault walk.new.rows
+        (later ++ due_of_children key (nodes_at parts.now.bytes.now walk.old.nodes.place count)) (left - count)) }
+    ensures err { IfErr result (λ fault. (key : List ℕ) (later : List Due) (left : ℕ) → suc (length key) ≡ len → count ≤ left
+        → fault_ahead parts.now.bytes.now parts.now.counts walk.old.nodes walk.old.fault walk.old.rows (due_under key count ++ later) left ≡ Some fault.place) }
 {
     for i in 0..count {
         match check_child(parts, len, i == 0, walk) {
@@ -123,7 +139,10 @@ fn check_root<'a>(parts: &Parts<'a>) -> Result<Walk<'a>, ImageFault>
     ensures walk { IfOk result (λ walk. IsWalk parts.now.counts walk.nodes walk.fault walk.rows) }
     ensures place { IfOk result (λ walk. walk.nodes.place ≡ 36) }
     ensures children { IfOk result (λ walk. walk.nodes.next_child ≡ 1 + (node_at parts.now.bytes.now 20).children) }
-    ensures ok { IfOk result (λ walk. image_place parts.now.bytes.now ≡ fault_ahead parts.now.bytes.now parts.now.counts walk.nodes walk.fault walk.rows (due_under [] (node_at parts.now.bytes.now 20).children) (parts.now.counts.nodes - 1)) }
+    ensures ok { IfOk result
+        (λ walk. image_place parts.now.bytes.now
+        ≡ fault_ahead parts.now.bytes.now parts.now.counts walk.nodes walk.fault walk.rows
+        (due_under [] (node_at parts.now.bytes.now 20).children) (parts.now.counts.nodes - 1)) }
     ensures err { IfErr result (λ fault. image_place parts.now.bytes.now ≡ Some fault.place) }
 {
     let root = node_at(parts.bytes, HEADER_LEN);
@@ -155,7 +174,8 @@ fn level_at(level: Level, place: usize, seen: usize) -> Level
 
 /// All nodes and their rows.
 pub(crate) fn check_nodes<'a>(parts: &Parts<'a>) -> Result<Walk<'a>, ImageFault>
-    ensures ok { IfOk result (λ walk. image_place parts.now.bytes.now ≡ fault_once_read parts.now.bytes.now parts.now.counts walk.nodes.next_row walk.fault walk.rows (Ok [])) }
+    ensures ok { IfOk result
+        (λ walk. image_place parts.now.bytes.now ≡ fault_once_read parts.now.bytes.now parts.now.counts walk.nodes.next_row walk.fault walk.rows (Ok [])) }
     ensures rows { IfOk result (λ walk. walk.nodes.next_row ≤ parts.now.counts.rows) }
     ensures err { IfErr result (λ fault. image_place parts.now.bytes.now ≡ Some fault.place) }
 {

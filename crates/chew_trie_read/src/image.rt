@@ -92,7 +92,8 @@ impl<'a> Image<'a> {
     /// A row, counted from 0, its phrase lent.
     pub(crate) fn row(&self, place: u32) -> RowRef<'a>
         requires { place < length self.now }
-        ensures { (key : List ℕ) × (slice_get self.now place ≡ Some (record { key = key; phrase = result.phrase.now; freq = result.freq; time = result.time })) }
+        ensures { (key : List ℕ)
+            × (slice_get self.now place ≡ Some (record { key = key; phrase = result.phrase.now; freq = result.freq; time = result.time })) }
     {
         let bytes = self.bytes;
         let row = row_at(bytes, self.counts.rows_place() + ROW_LEN * place as usize);

@@ -62,7 +62,8 @@ fn parent_of(image: &Image, i: u32) -> u32
 fn node_of(image: &Image, place: u32) -> u32
     requires { place < length image.now }
     ensures within { result < length (node_keys image.now) }
-    ensures key { (phrase : List ℕ) × (freq : ℕ) × (time : ℕ) × (slice_get image.now place ≡ Some (record { key = key_at image.now result; phrase = phrase; freq = freq; time = time })) }
+    ensures key { (phrase : List ℕ) × (freq : ℕ) × (time : ℕ)
+        × (slice_get image.now place ≡ Some (record { key = key_at image.now result; phrase = phrase; freq = freq; time = time })) }
 {
     let _rows = image.rows();
     last_before(image, Start::Rows, 0, image.nodes(), place)
@@ -84,7 +85,8 @@ fn syllable_of(image: &Image, i: u32) -> Syllable
 /// The key of the row at a place.
 pub(crate) fn key_of(image: &Image, place: u32) -> Key
     requires { place < length image.now }
-    ensures { (phrase : List ℕ) × (freq : ℕ) × (time : ℕ) × (slice_get image.now place ≡ Some (record { key = result; phrase = phrase; freq = freq; time = time })) }
+    ensures { (phrase : List ℕ) × (freq : ℕ) × (time : ℕ)
+        × (slice_get image.now place ≡ Some (record { key = result; phrase = phrase; freq = freq; time = time })) }
 {
     let _rows = image.rows();
     let mut syllables = [Syllable::default(); KEY_LIMIT];

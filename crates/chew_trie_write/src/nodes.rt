@@ -88,7 +88,15 @@ fn push_node(
     requires children { prefix_len (is_child key.now) (drop (at.old.child - 1) keys.now) < 2 ^ 16 }
     requires few_keys { length keys.now + 1 < 2 ^ 32 }
     requires few_rows { length rows.now < 2 ^ 32 }
-    ensures ok { OnOk result (out.new.items ≡ out.old.items ++ node_bytes (record { code = last_code key.now; children = prefix_len (is_child key.now) (drop (at.old.child - 1) keys.now); first_child = at.old.child; rows = prefix_len (is_under key.now) (drop at.old.row rows.now); first_row = at.old.row })) }
+    ensures ok { OnOk result
+        (out.new.items ≡ out.old.items
+        ++ node_bytes (record {
+          code = last_code key.now;
+          children = prefix_len (is_child key.now) (drop (at.old.child - 1) keys.now);
+          first_child = at.old.child;
+          rows = prefix_len (is_under key.now) (drop at.old.row rows.now);
+          first_row = at.old.row;
+        })) }
     ensures child { OnOk result (at.new.child ≡ at.old.child + prefix_len (is_child key.now) (drop (at.old.child - 1) keys.now)) }
     ensures row { OnOk result (at.new.row ≡ at.old.row + prefix_len (is_under key.now) (drop at.old.row rows.now)) }
 {

@@ -44,7 +44,8 @@ fn push_parts(out: &mut Vec<u8>, keys: &[Key], rows: &[KeyRow]) -> Result<(), No
     requires map { IsTrue (is_map rows.now) }
     requires each { IsTrue (list_all is_row rows.now) }
     requires few { length rows.now ≤ 250_000 }
-    ensures { OnOk result (out.new.items ≡ out.old.items ++ (flat_map node_bytes (nodes_of rows.now) ++ (flat_map row_bytes (fields_from 0 rows.now) ++ text_of rows.now))) }
+    ensures { OnOk result (out.new.items
+        ≡ out.old.items ++ (flat_map node_bytes (nodes_of rows.now) ++ (flat_map row_bytes (fields_from 0 rows.now) ++ text_of rows.now))) }
 {
     push_nodes(out, keys, rows)?;
     push_rows(out, rows)?;

@@ -121,7 +121,8 @@ fn run_session<R: Wait + Threads + Sync, D: Disk, G: Gate>(
     requires keeper { seats.keeper ≡ record { cell = seats.shared; who = 0; seen = [] } }
     requires passes { seats.keeper ∷ seats.passes.items ≡ new_passes seats.shared (length actors.items + 1) }
     requires seats { seats.shared.seats ≡ length actors.items + 1 }
-    ensures session { IsSession (basis_of (rows_of system.now) settings.now seats.shared) (keys_of_all actors.items) rounds checkpointer.seq (session_of result) }
+    ensures session { IsSession (basis_of (rows_of system.now) settings.now seats.shared)
+        (keys_of_all actors.items) rounds checkpointer.seq (session_of result) }
     ensures told { D.told disk.new ≡ D.told disk.old }
     ensures later { D.told disk.old ≡ true → Later (D.state disk.old) (D.state disk.new) }
     ensures faults { RoseBy (disk_faults (map round_of result.rounds.items)) (D.faults disk.old) (D.faults disk.new) }

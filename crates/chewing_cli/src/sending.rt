@@ -108,7 +108,8 @@ fn round_line(number: u32, round: &Round) -> ArrayString<64>
 
 /// Writes the line of a round.
 fn send_round<O: Sink>(sink: &mut O, number: u32, round: &Round) -> Result<(), Failed>
-    ensures { Writes (sunk (O.taken sink.old) (O.taken sink.new) (O.faults sink.old) (O.faults sink.new)) (round_line number (round_of round.now)) (is_err result) }
+    ensures { Writes (sunk (O.taken sink.old) (O.taken sink.new) (O.faults sink.old) (O.faults sink.new))
+        (round_line number (round_of round.now)) (is_err result) }
 {
     send(sink, round_line(number, round).as_bytes())
 }

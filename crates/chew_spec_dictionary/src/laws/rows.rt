@@ -21,7 +21,8 @@ pub fn orders_of_rows()
     ensures hits { IsTotalOrder shown_hit_cmp }
     ensures image_parts { (row other : Row)
         → image_cmp row other
-        ≡ ordering_then (nat_cmp (length row.key) (length other.key)) (ordering_then (slice_cmp nat_cmp row.key other.key) (slice_cmp nat_cmp row.phrase other.phrase)) }
+        ≡ ordering_then (nat_cmp (length row.key) (length other.key))
+        (ordering_then (slice_cmp nat_cmp row.key other.key) (slice_cmp nat_cmp row.phrase other.phrase)) }
     ensures image_ties { (row other : Row) → image_cmp row other ≡ Equal → (row.key ≡ other.key) × (row.phrase ≡ other.phrase) }
 {}
 

@@ -34,7 +34,8 @@ pub fn hidden_phrases_are_not_shown()
         → run.start ≤ piece.start → piece.start < run_end run
         → IsHiddenAt (hits_in reply) (record { start = piece.start - run.start; len = phrase_len piece.phrase }) piece.phrase
         → Contains (map piece_of_choice pending.editor.buffer.choices) piece }
-    ensures window { (system : List Row) (pending : Pending) (replies rest : List Reply) (run : PlacedRun) (runs : List PlacedRun) (reply : Reply) (window : Window) (list : CandidateList) (hit : Hit)
+    ensures window { (system : List Row) (pending : Pending) (replies rest : List Reply) (run : PlacedRun)
+        (runs : List PlacedRun) (reply : Reply) (window : Window) (list : CandidateList) (hit : Hit)
         → runs_asked pending ≡ run ∷ runs → drop (length pending.changes) replies ≡ reply ∷ rest
         → (finish system pending replies).editor.window ≡ Some window → Contains window.lists list → Contains list.rows hit
         → IsHiddenAt (hits_in reply) (record { start = window.place - run.start; len = list.len }) hit.phrase → ⊥ }

@@ -71,10 +71,14 @@ pub fn typing_keeps_an_editor()
 /// The ends of the settings' ranges.
 pub fn known_settings()
     ensures standard { IsTrue (is_settings standard_settings) }
-    ensures cells { IsTrue (is_settings (with_cells 1)) × IsTrue (is_settings (with_cells 39)) × IsFalse (is_settings (with_cells 0)) × IsFalse (is_settings (with_cells 40)) }
+    ensures cells { IsTrue (is_settings (with_cells 1)) × IsTrue (is_settings (with_cells 39))
+        × IsFalse (is_settings (with_cells 0)) × IsFalse (is_settings (with_cells 40)) }
     ensures page { IsTrue (is_settings (with_page 1)) × IsFalse (is_settings (with_page 0)) × IsFalse (is_settings (with_page 11)) }
-    ensures cap { IsTrue (is_settings (with_cap 1)) × IsTrue (is_settings (with_cap 200_000)) × IsFalse (is_settings (with_cap 0)) × IsFalse (is_settings (with_cap 200_001)) }
-    ensures keys { IsTrue (is_settings (record standard_settings { selection = codes "asdfghjkl;" })) × IsFalse (is_settings (record standard_settings { selection = codes "123456789" }))
+    ensures cap { IsTrue (is_settings (with_cap 1)) × IsTrue (is_settings (with_cap 200_000))
+        × IsFalse (is_settings (with_cap 0)) × IsFalse (is_settings (with_cap 200_001)) }
+    ensures keys { IsTrue (is_settings (record standard_settings { selection = codes "asdfghjkl;" }))
+        × IsFalse (is_settings (record standard_settings { selection = codes "123456789" }))
         × IsFalse (is_settings (record standard_settings { selection = codes "123456789 " })) }
-    ensures doubled { IsFalse (is_settings (record standard_settings { selection = codes "1123456789" })) × IsFalse (is_settings (record standard_settings { selection = codes "1234567891" })) }
+    ensures doubled { IsFalse (is_settings (record standard_settings { selection = codes "1123456789" }))
+        × IsFalse (is_settings (record standard_settings { selection = codes "1234567891" })) }
 {}

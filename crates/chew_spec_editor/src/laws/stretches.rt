@@ -39,7 +39,8 @@ pub fn parts_have_eleven()
     ensures last { (system : List Row) (cells : List Cell) (breaks : List ℕ) (pieces : List Piece) (stretch : Stretch) (k : ℕ) (call : Call)
         → IsTrue (list_all is_piece pieces) → Contains (stretches breaks pieces) stretch → slice_get (learns_of system cells stretch) k ≡ Some call
         → suc k ≡ length (learns_of system cells stretch)
-        → (1 ≤ phrase_len (phrase_learnt call)) × (phrase_len (phrase_learnt call) ≤ 11) × (phrase_len stretch.phrase ≡ 11 * k + phrase_len (phrase_learnt call)) }
+        → (1 ≤ phrase_len (phrase_learnt call)) × (phrase_len (phrase_learnt call) ≤ 11)
+        × (phrase_len stretch.phrase ≡ 11 * k + phrase_len (phrase_learnt call)) }
 {}
 
 /// Known stretches of 策, a piece of one syllable each: those that follow one another go together, unless a break parts them.

@@ -37,7 +37,8 @@ pub fn base_and_what_waits()
 /// where nothing waits.
 pub fn fresh_layer()
     ensures pairs { (layers : Layers) → StandForMap layers → (key phrase : List ℕ) → is_some (mark_of layers.fresh key phrase)
-        ≡ touched (start_of layers.start) layers.journal (option_map_or (λ waiting. waiting.number) layers.frozen layers.installed) (length layers.journal) key phrase }
+        ≡ touched (start_of layers.start) layers.journal
+        (option_map_or (λ waiting. waiting.number) layers.frozen layers.installed) (length layers.journal) key phrase }
 {}
 
 /// New layers stand for the map that they are over, and they go on to stand for the map after each call: one that changes no

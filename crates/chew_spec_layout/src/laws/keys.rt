@@ -32,9 +32,12 @@ pub fn keys_of_a_layout_that_holds()
 /// A key that stands in no column, and is neither Space nor Backspace, isn't the layout's, whatever is held; and so it is
 /// on Pinyin with a key that is neither a letter nor a tone's.
 pub fn other_keys()
-    ensures table { (columns : Columns) (held : Parts) (key : ℕ) → IsFalse (has_key (all_keys columns) key) → (key ≡ 32 → ⊥) → (key ≡ 8 → ⊥) → fed columns held key ≡ record { step = NotMine; held = held } }
-    ensures letters { (columns : Columns) (held : List ℕ) (key : ℕ) → IsFalse (has_key (all_keys columns) key) → (key ≡ 32 → ⊥) → (key ≡ 8 → ⊥) → fed_letters columns held key ≡ record { step = NotMine; held = held } }
-    ensures pinyin { (held : List ℕ) (key : ℕ) → IsFalse (is_pinyin_letter key) → IsFalse (is_tone_key key) → (key ≡ 8 → ⊥) → fed_spelling held key ≡ record { step = NotMine; held = held } }
+    ensures table { (columns : Columns) (held : Parts) (key : ℕ) → IsFalse (has_key (all_keys columns) key)
+        → (key ≡ 32 → ⊥) → (key ≡ 8 → ⊥) → fed columns held key ≡ record { step = NotMine; held = held } }
+    ensures letters { (columns : Columns) (held : List ℕ) (key : ℕ) → IsFalse (has_key (all_keys columns) key)
+        → (key ≡ 32 → ⊥) → (key ≡ 8 → ⊥) → fed_letters columns held key ≡ record { step = NotMine; held = held } }
+    ensures pinyin { (held : List ℕ) (key : ℕ) → IsFalse (is_pinyin_letter key) → IsFalse (is_tone_key key)
+        → (key ≡ 8 → ⊥) → fed_spelling held key ≡ record { step = NotMine; held = held } }
 {}
 
 /// ㄘㄜˋ on each layout but Eten, which has ㄗㄜˋ: what the keys before the tone's show, and the syllable that the tone's
@@ -64,7 +67,8 @@ pub fn known_refusals()
 
 /// Backspace on each layout takes the last part or letter alone.
 pub fn known_erasing()
-    ensures standard { feed (after (new_layout layout.Standard) (codes "hk")) 8 ≡ record { step = Erased; layout = after (new_layout layout.Standard) (codes "h") } }
+    ensures standard { feed (after (new_layout layout.Standard) (codes "hk")) 8
+        ≡ record { step = Erased; layout = after (new_layout layout.Standard) (codes "h") } }
     ensures eten { feed (after (new_layout layout.Eten) (codes ";r")) 8 ≡ record { step = Erased; layout = after (new_layout layout.Eten) (codes ";") } }
     ensures hsu { feed (after (new_layout layout.Hsu) (codes "ag")) 8 ≡ record { step = Erased; layout = ByLetters Hsu (codes "a") } }
     ensures et26 { feed (after (new_layout layout.Et26) (codes "wr")) 8 ≡ record { step = Erased; layout = ByLetters Et26 (codes "w") } }

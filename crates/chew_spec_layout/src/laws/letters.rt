@@ -55,7 +55,8 @@ pub fn hsu_other_keys()
     ensures space { letter_steps (letter_columns Hsu) [] (codes " ") ≡ NotMine ∷ [] }
     ensures backspace { letter_steps (letter_columns Hsu) [] (8 ∷ []) ≡ NotMine ∷ [] }
     ensures no_letters { letter_steps (letter_columns Hsu) [] (codes "qb1 ") ≡ NotMine ∷ (Kept ∷ (NotMine ∷ (Refused ∷ []))) }
-    ensures erase { letter_steps (letter_columns Hsu) [] (106 ∷ (120 ∷ (108 ∷ (8 ∷ (8 ∷ (8 ∷ (8 ∷ []))))))) ≡ Kept ∷ (Kept ∷ (Kept ∷ (Erased ∷ (Erased ∷ (Erased ∷ (NotMine ∷ [])))))) }
+    ensures erase { letter_steps (letter_columns Hsu) [] (106 ∷ (120 ∷ (108 ∷ (8 ∷ (8 ∷ (8 ∷ (8 ∷ [])))))))
+        ≡ Kept ∷ (Kept ∷ (Kept ∷ (Erased ∷ (Erased ∷ (Erased ∷ (NotMine ∷ [])))))) }
     ensures erase_medial { letter_steps (letter_columns Hsu) [] (106 ∷ (101 ∷ (8 ∷ (106 ∷ [])))) ≡ Kept ∷ (Kept ∷ (Erased ∷ (Whole 7684 ∷ []))) }
 {}
 
@@ -103,14 +104,18 @@ pub fn whole_empties()
 
 /// A refused key and a key that isn't the layout's change nothing.
 pub fn kept_otherwise()
-    ensures refused { (columns : Columns) (held : List ℕ) (key : ℕ) → (fed_letters columns held key).step ≡ Refused → (fed_letters columns held key).held ≡ held }
-    ensures not_mine { (columns : Columns) (held : List ℕ) (key : ℕ) → (fed_letters columns held key).step ≡ NotMine → (fed_letters columns held key).held ≡ held }
+    ensures refused { (columns : Columns) (held : List ℕ) (key : ℕ)
+        → (fed_letters columns held key).step ≡ Refused → (fed_letters columns held key).held ≡ held }
+    ensures not_mine { (columns : Columns) (held : List ℕ) (key : ℕ)
+        → (fed_letters columns held key).step ≡ NotMine → (fed_letters columns held key).held ≡ held }
 {}
 
 /// What is held stays at most three of the layout's letters, and what is whole is a syllable.
 pub fn held_are_letters()
-    ensures stays { (columns : Columns) (held : List ℕ) (key : ℕ) → IsTrue (are_held_letters columns held) → IsTrue (are_held_letters columns (fed_letters columns held key).held) }
-    ensures whole { (letters : Letters) (held : List ℕ) (key code : ℕ) → (fed_letters (letter_columns letters) held key).step ≡ Whole code → IsTrue (is_code code) }
+    ensures stays { (columns : Columns) (held : List ℕ) (key : ℕ) → IsTrue (are_held_letters columns held)
+        → IsTrue (are_held_letters columns (fed_letters columns held key).held) }
+    ensures whole { (letters : Letters) (held : List ℕ) (key code : ℕ)
+        → (fed_letters (letter_columns letters) held key).step ≡ Whole code → IsTrue (is_code code) }
 {}
 
 /// The letters that stand for two parts of a kind: of two initials one is always ㄐ, ㄑ or ㄒ, and Hsu's `l` alone has two
@@ -142,13 +147,17 @@ pub fn tones_are_initials()
 /// the finals behind ㄧ, and the tones of ㄧ.
 pub fn hsu_keyboard()
     ensures upper_initials { flat_map (λ letter. read_text (letter_columns Hsu) (letter ∷ codes "x")) (codes "rtp") ≡ encode_utf8_all (codes "ㄖㄨㄊㄨㄆㄨ") }
-    ensures home_initials { flat_map (λ letter. read_text (letter_columns Hsu) (letter ∷ codes "x")) (codes "asdfghjkl") ≡ encode_utf8_all (codes "ㄘㄨㄙㄨㄉㄨㄈㄨㄍㄨㄏㄨㄓㄨㄎㄨㄌㄨ") }
-    ensures lower_initials { flat_map (λ letter. read_text (letter_columns Hsu) (letter ∷ codes "x")) (codes "zcvbnm") ≡ encode_utf8_all (codes "ㄗㄨㄕㄨㄔㄨㄅㄨㄋㄨㄇㄨ") }
+    ensures home_initials { flat_map (λ letter. read_text (letter_columns Hsu) (letter ∷ codes "x")) (codes "asdfghjkl")
+        ≡ encode_utf8_all (codes "ㄘㄨㄙㄨㄉㄨㄈㄨㄍㄨㄏㄨㄓㄨㄎㄨㄌㄨ") }
+    ensures lower_initials { flat_map (λ letter. read_text (letter_columns Hsu) (letter ∷ codes "x")) (codes "zcvbnm")
+        ≡ encode_utf8_all (codes "ㄗㄨㄕㄨㄔㄨㄅㄨㄋㄨㄇㄨ") }
     ensures before_i { flat_map (λ letter. read_text (letter_columns Hsu) (letter ∷ codes "e")) (codes "jcvbl") ≡ encode_utf8_all (codes "ㄐㄧㄒㄧㄑㄧㄅㄧㄌㄧ") }
     ensures before_yu { flat_map (λ letter. read_text (letter_columns Hsu) (letter ∷ codes "u")) (codes "jcvnl") ≡ encode_utf8_all (codes "ㄐㄩㄒㄩㄑㄩㄋㄩㄌㄩ") }
     ensures medials { flat_map (λ letter. read_text (letter_columns Hsu) (letter ∷ [])) (codes "eux") ≡ encode_utf8_all (codes "ㄧㄩㄨ") }
-    ensures upper_finals { flat_map (λ letter. read_text (letter_columns Hsu) (codes "e" ++ letter ∷ [])) (codes "weyio") ≡ encode_utf8_all (codes "ㄧㄠㄧㄝㄧㄚㄧㄞㄧㄡ") }
-    ensures home_finals { flat_map (λ letter. read_text (letter_columns Hsu) (codes "e" ++ letter ∷ [])) (codes "aghkl") ≡ encode_utf8_all (codes "ㄧㄟㄧㄜㄧㄛㄧㄤㄧㄥ") }
+    ensures upper_finals { flat_map (λ letter. read_text (letter_columns Hsu) (codes "e" ++ letter ∷ [])) (codes "weyio")
+        ≡ encode_utf8_all (codes "ㄧㄠㄧㄝㄧㄚㄧㄞㄧㄡ") }
+    ensures home_finals { flat_map (λ letter. read_text (letter_columns Hsu) (codes "e" ++ letter ∷ [])) (codes "aghkl")
+        ≡ encode_utf8_all (codes "ㄧㄟㄧㄜㄧㄛㄧㄤㄧㄥ") }
     ensures lower_finals { flat_map (λ letter. read_text (letter_columns Hsu) (codes "e" ++ letter ∷ [])) (codes "nm") ≡ encode_utf8_all (codes "ㄧㄣㄧㄢ") }
     ensures alone { read_text (letter_columns Hsu) (codes "l") ≡ encode_utf8_all (codes "ㄦ") }
     ensures tones { map (λ key. (fed_letters (letter_columns Hsu) (codes "e") key).step) (codes " sdfj") ≡ map Whole (range_with_len 128 5) }
@@ -157,12 +166,14 @@ pub fn hsu_keyboard()
 /// The same of ET26, which has ㄦ as a letter of its own.
 pub fn et26_keyboard()
     ensures upper_initials { flat_map (λ letter. read_text (letter_columns Et26) (letter ∷ codes "x")) (codes "qwtyp") ≡ encode_utf8_all (codes "ㄗㄨㄘㄨㄊㄨㄔㄨㄆㄨ") }
-    ensures home_initials { flat_map (λ letter. read_text (letter_columns Et26) (letter ∷ codes "x")) (codes "sdfghjkl") ≡ encode_utf8_all (codes "ㄙㄨㄉㄨㄈㄨㄓㄨㄏㄨㄖㄨㄎㄨㄌㄨ") }
+    ensures home_initials { flat_map (λ letter. read_text (letter_columns Et26) (letter ∷ codes "x")) (codes "sdfghjkl")
+        ≡ encode_utf8_all (codes "ㄙㄨㄉㄨㄈㄨㄓㄨㄏㄨㄖㄨㄎㄨㄌㄨ") }
     ensures lower_initials { flat_map (λ letter. read_text (letter_columns Et26) (letter ∷ codes "x")) (codes "cvbnm") ≡ encode_utf8_all (codes "ㄕㄨㄍㄨㄅㄨㄋㄨㄇㄨ") }
     ensures before_i { flat_map (λ letter. read_text (letter_columns Et26) (letter ∷ codes "e")) (codes "gcvbl") ≡ encode_utf8_all (codes "ㄐㄧㄒㄧㄑㄧㄅㄧㄌㄧ") }
     ensures before_yu { flat_map (λ letter. read_text (letter_columns Et26) (letter ∷ codes "u")) (codes "gcvnl") ≡ encode_utf8_all (codes "ㄐㄩㄒㄩㄑㄩㄋㄩㄌㄩ") }
     ensures medials { flat_map (λ letter. read_text (letter_columns Et26) (letter ∷ [])) (codes "eux") ≡ encode_utf8_all (codes "ㄧㄩㄨ") }
-    ensures upper_finals { flat_map (λ letter. read_text (letter_columns Et26) (codes "e" ++ letter ∷ [])) (codes "qwrtiop") ≡ encode_utf8_all (codes "ㄧㄟㄧㄝㄧㄜㄧㄤㄧㄞㄧㄛㄧㄡ") }
+    ensures upper_finals { flat_map (λ letter. read_text (letter_columns Et26) (codes "e" ++ letter ∷ [])) (codes "qwrtiop")
+        ≡ encode_utf8_all (codes "ㄧㄟㄧㄝㄧㄜㄧㄤㄧㄞㄧㄛㄧㄡ") }
     ensures home_finals { flat_map (λ letter. read_text (letter_columns Et26) (codes "e" ++ letter ∷ [])) (codes "ahl") ≡ encode_utf8_all (codes "ㄧㄚㄧㄦㄧㄥ") }
     ensures lower_finals { flat_map (λ letter. read_text (letter_columns Et26) (codes "e" ++ letter ∷ [])) (codes "znm") ≡ encode_utf8_all (codes "ㄧㄠㄧㄣㄧㄢ") }
     ensures tones { map (λ key. (fed_letters (letter_columns Et26) (codes "e") key).step) (codes " dfjk") ≡ map Whole (range_with_len 128 5) }

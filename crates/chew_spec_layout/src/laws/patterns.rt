@@ -21,9 +21,12 @@ pub fn known_patterns()
 /// Letters are read as the first of their patterns that fits and is valid: none before it fits and is valid, and where
 /// they are read as nothing, none of them.
 pub fn first_that_fits()
-    ensures found { (columns : Columns) (held : List ℕ) (parts : Parts) → reading_of columns held ≡ Some parts → (place : ℕ) × IsFirstReading columns (takings held) place parts }
-    ensures back { (columns : Columns) (held : List ℕ) (place : ℕ) (parts : Parts) → IsFirstReading columns (takings held) place parts → reading_of columns held ≡ Some parts }
-    ensures none { (columns : Columns) (held : List ℕ) → reading_of columns held ≡ None → (place : ℕ) (parts : Parts) → IsReading columns (takings held) place parts → ⊥ }
+    ensures found { (columns : Columns) (held : List ℕ) (parts : Parts)
+        → reading_of columns held ≡ Some parts → (place : ℕ) × IsFirstReading columns (takings held) place parts }
+    ensures back { (columns : Columns) (held : List ℕ) (place : ℕ) (parts : Parts)
+        → IsFirstReading columns (takings held) place parts → reading_of columns held ≡ Some parts }
+    ensures none { (columns : Columns) (held : List ℕ) → reading_of columns held ≡ None
+        → (place : ℕ) (parts : Parts) → IsReading columns (takings held) place parts → ⊥ }
 {}
 
 /// An initial alone is valid exactly where it is one of the seven from ㄓ to ㄙ; a medial or a final is valid, with an
@@ -37,8 +40,10 @@ pub fn valid_readings()
 /// Each letter alone, from a to z: ㄘ and ㄕ come before the finals of their letters, ㄧ before ㄝ, and where the initial
 /// isn't valid the final counts, as ㄜ of ㄍ's letter and ㄦ of ㄌ's.
 pub fn letters_alone()
-    ensures hsu { flat_map (λ letter. read_text (letter_columns Hsu) (letter ∷ [])) (range_with_len 97 26) ≡ encode_utf8_all (codes "ㄘ-ㄕ-ㄧ-ㄜㄛㄞㄓㄤㄦㄢㄣㄡ--ㄖㄙ-ㄩㄔㄠㄨㄚㄗ") }
-    ensures et26 { flat_map (λ letter. read_text (letter_columns Et26) (letter ∷ [])) (range_with_len 97 26) ≡ encode_utf8_all (codes "ㄚ-ㄕ-ㄧ-ㄓㄦㄞㄖ-ㄥㄢㄣㄛㄡㄗㄜㄙㄤㄩ-ㄘㄨㄔㄠ") }
+    ensures hsu { flat_map (λ letter. read_text (letter_columns Hsu) (letter ∷ [])) (range_with_len 97 26)
+        ≡ encode_utf8_all (codes "ㄘ-ㄕ-ㄧ-ㄜㄛㄞㄓㄤㄦㄢㄣㄡ--ㄖㄙ-ㄩㄔㄠㄨㄚㄗ") }
+    ensures et26 { flat_map (λ letter. read_text (letter_columns Et26) (letter ∷ [])) (range_with_len 97 26)
+        ≡ encode_utf8_all (codes "ㄚ-ㄕ-ㄧ-ㄓㄦㄞㄖ-ㄥㄢㄣㄛㄡㄗㄜㄙㄤㄩ-ㄘㄨㄔㄠ") }
 {}
 
 /// The same with Space: ㄘ, ㄖ and ㄗ on Hsu, and ㄗ and ㄘ on ET26, though some of their letters are finals too.

@@ -37,7 +37,8 @@ pub fn known_endings()
 
 /// The tones of ㄇㄚ: Space and 1 to 5 make ㄇㄚ, ㄇㄚ, ㄇㄚˊ, ㄇㄚˇ, ㄇㄚˋ and ㄇㄚ˙.
 pub fn known_tones()
-    ensures { spelling_steps [] (codes "ma ma1ma2ma3ma4ma5") ≡ Kept ∷ (Kept ∷ (Whole 1544 ∷ (Kept ∷ (Kept ∷ (Whole 1544 ∷ (Kept ∷ (Kept ∷ (Whole 1546 ∷ (Kept ∷ (Kept ∷ (Whole 1547 ∷ (Kept ∷ (Kept ∷ (Whole 1548 ∷ (Kept ∷ (Kept ∷ (Whole 1545 ∷ []))))))))))))))))) }
+    ensures { spelling_steps [] (codes "ma ma1ma2ma3ma4ma5") ≡ Kept ∷ (Kept ∷ (Whole 1544 ∷ (Kept ∷ (Kept ∷ (Whole 1544 ∷ (Kept ∷ (Kept
+        ∷ (Whole 1546 ∷ (Kept ∷ (Kept ∷ (Whole 1547 ∷ (Kept ∷ (Kept ∷ (Whole 1548 ∷ (Kept ∷ (Kept ∷ (Whole 1545 ∷ []))))))))))))))))) }
 {}
 
 /// What is refused: letters that are no spelling, until the wrong one is erased, `v` behind ㄐ, an initial alone, and a
@@ -64,7 +65,8 @@ pub fn marks_are_a_syllable()
 
 /// The text of what is whole is the spelling's marks and the mark of the tone.
 pub fn whole_is_spelled()
-    ensures { (held : List ℕ) (key code : ℕ) (spelling : Spelling) → spelling_of held ≡ Some spelling → (fed_spelling held key).step ≡ Whole code → text_of (parts_of code) ≡ spelling.marks ++ mark_text tone_marks (tone_of key) }
+    ensures { (held : List ℕ) (key code : ℕ) (spelling : Spelling) → spelling_of held ≡ Some spelling
+        → (fed_spelling held key).step ≡ Whole code → text_of (parts_of code) ≡ spelling.marks ++ mark_text tone_marks (tone_of key) }
 {}
 
 /// After a whole syllable nothing is held.

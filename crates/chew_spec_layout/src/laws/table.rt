@@ -33,7 +33,8 @@ pub fn standard_numbers()
     ensures initials { map (λ key. (fed (columns_of Standard) nothing_held key).held.initial) (columns_of Standard).initials ≡ range_with_len 1 21 }
     ensures medials { map (λ key. (fed (columns_of Standard) nothing_held key).held.medial) (columns_of Standard).medials ≡ range_with_len 1 3 }
     ensures finals { map (λ key. (fed (columns_of Standard) nothing_held key).held.final) (columns_of Standard).finals ≡ range_with_len 1 13 }
-    ensures tones { map (λ key. (fed (columns_of Standard) (record { initial = 1; medial = 0; final = 0; tone = 0 }) key).step) (columns_of Standard).tones ≡ map Whole (range_with_len 513 4) }
+    ensures tones { map (λ key. (fed (columns_of Standard) (record { initial = 1; medial = 0; final = 0; tone = 0 }) key).step) (columns_of Standard).tones
+        ≡ map Whole (range_with_len 513 4) }
 {}
 
 /// The same of Eten.
@@ -41,7 +42,8 @@ pub fn eten_numbers()
     ensures initials { map (λ key. (fed (columns_of Eten) nothing_held key).held.initial) (columns_of Eten).initials ≡ range_with_len 1 21 }
     ensures medials { map (λ key. (fed (columns_of Eten) nothing_held key).held.medial) (columns_of Eten).medials ≡ range_with_len 1 3 }
     ensures finals { map (λ key. (fed (columns_of Eten) nothing_held key).held.final) (columns_of Eten).finals ≡ range_with_len 1 13 }
-    ensures tones { map (λ key. (fed (columns_of Eten) (record { initial = 1; medial = 0; final = 0; tone = 0 }) key).step) (columns_of Eten).tones ≡ map Whole (range_with_len 513 4) }
+    ensures tones { map (λ key. (fed (columns_of Eten) (record { initial = 1; medial = 0; final = 0; tone = 0 }) key).step) (columns_of Eten).tones
+        ≡ map Whole (range_with_len 513 4) }
 {}
 
 /// After a whole syllable nothing is held.
@@ -58,15 +60,20 @@ pub fn kept_otherwise()
 /// Of two keys for parts of one kind, one after the other, the last counts. What the layouts' columns need for it,
 /// `no_shared_key` says.
 pub fn last_counts()
-    ensures initials { (columns : Columns) (held : Parts) (first second : ℕ) → IsTrue (has_key columns.initials first) → IsTrue (has_key columns.initials second) → fed columns (fed columns held first).held second ≡ fed columns held second }
-    ensures medials { (columns : Columns) (held : Parts) (first second : ℕ) → IsTrue (no_key_twice (all_keys columns)) → IsTrue (has_key columns.medials first) → IsTrue (has_key columns.medials second) → fed columns (fed columns held first).held second ≡ fed columns held second }
-    ensures finals { (columns : Columns) (held : Parts) (first second : ℕ) → IsTrue (no_key_twice (all_keys columns)) → IsTrue (has_key columns.finals first) → IsTrue (has_key columns.finals second) → fed columns (fed columns held first).held second ≡ fed columns held second }
+    ensures initials { (columns : Columns) (held : Parts) (first second : ℕ) → IsTrue (has_key columns.initials first)
+        → IsTrue (has_key columns.initials second) → fed columns (fed columns held first).held second ≡ fed columns held second }
+    ensures medials { (columns : Columns) (held : Parts) (first second : ℕ) → IsTrue (no_key_twice (all_keys columns))
+        → IsTrue (has_key columns.medials first) → IsTrue (has_key columns.medials second)
+        → fed columns (fed columns held first).held second ≡ fed columns held second }
+    ensures finals { (columns : Columns) (held : Parts) (first second : ℕ) → IsTrue (no_key_twice (all_keys columns)) → IsTrue (has_key columns.finals first)
+        → IsTrue (has_key columns.finals second) → fed columns (fed columns held first).held second ≡ fed columns held second }
 {}
 
 /// What a layout holds stays in the range of its parts, and what it makes whole is a syllable.
 pub fn held_in_range()
     ensures stays { (table : Table) (held : Parts) (key : ℕ) → IsTrue (is_held held) → IsTrue (is_held (fed (columns_of table) held key).held) }
-    ensures whole { (table : Table) (held : Parts) (key code : ℕ) → IsTrue (is_held held) → (fed (columns_of table) held key).step ≡ Whole code → IsTrue (is_code code) }
+    ensures whole { (table : Table) (held : Parts) (key code : ℕ) → IsTrue (is_held held)
+        → (fed (columns_of table) held key).step ≡ Whole code → IsTrue (is_code code) }
 {}
 
 /// Where a key was kept, something is held.
@@ -94,8 +101,11 @@ pub fn eten_keyboard()
 
 /// Backspace takes the final, else the medial, else the initial.
 pub fn known_erasing()
-    ensures finals { (fed (columns_of Standard) (record { initial = 20; medial = 2; final = 3; tone = 0 }) 8).held ≡ record { initial = 20; medial = 2; final = 0; tone = 0 } }
-    ensures medials { (fed (columns_of Standard) (record { initial = 20; medial = 2; final = 0; tone = 0 }) 8).held ≡ record { initial = 20; medial = 0; final = 0; tone = 0 } }
+    ensures finals { (fed (columns_of Standard) (record { initial = 20; medial = 2; final = 3; tone = 0 }) 8).held
+        ≡ record { initial = 20; medial = 2; final = 0; tone = 0 } }
+    ensures medials { (fed (columns_of Standard) (record { initial = 20; medial = 2; final = 0; tone = 0 }) 8).held
+        ≡ record { initial = 20; medial = 0; final = 0; tone = 0 } }
     ensures initials { (fed (columns_of Standard) (record { initial = 20; medial = 0; final = 0; tone = 0 }) 8).held ≡ nothing_held }
-    ensures no_medial { (fed (columns_of Eten) (record { initial = 20; medial = 0; final = 3; tone = 0 }) 8).held ≡ record { initial = 20; medial = 0; final = 0; tone = 0 } }
+    ensures no_medial { (fed (columns_of Eten) (record { initial = 20; medial = 0; final = 3; tone = 0 }) 8).held
+        ≡ record { initial = 20; medial = 0; final = 0; tone = 0 } }
 {}

@@ -70,7 +70,8 @@ pub fn known_choices()
     ensures one_cell { chosen (choice 1 plan 200) (six_at 0) ≡ buffer six_cells 0 (2 ∷ []) (choice 1 plan 200 ∷ test_at 2 ∷ []) }
     ensures same_cells { chosen (choice 2 (survey ++ attempt) 7) (six_at 0) ≡ buffer six_cells 0 (2 ∷ []) (test_at 0 ∷ choice 2 (survey ++ attempt) 7 ∷ []) }
     ensures behind { chosen (choice 5 be 9000) (six_at 6) ≡ buffer six_cells 6 (2 ∷ []) (test_at 0 ∷ test_at 2 ∷ choice 5 be 9000 ∷ []) }
-    ensures between { chosen (choice 2 plan 0) (buffer six_cells 0 [] (test_at 0 ∷ choice 3 be 9000 ∷ [])) ≡ buffer six_cells 0 [] (test_at 0 ∷ choice 2 plan 0 ∷ choice 3 be 9000 ∷ []) }
+    ensures between { chosen (choice 2 plan 0) (buffer six_cells 0 [] (test_at 0 ∷ choice 3 be 9000 ∷ []))
+        ≡ buffer six_cells 0 [] (test_at 0 ∷ choice 2 plan 0 ∷ choice 3 be 9000 ∷ []) }
     ensures both { chosen (test_at 1) (buffer six_cells 0 [] (test_at 0 ∷ test_at 2 ∷ [])) ≡ buffer six_cells 0 [] (test_at 1 ∷ []) }
     ensures may { is_choice_of six_cells [] (test_at 1) ≡ true }
     ensures parted { is_choice_of six_cells (2 ∷ []) (test_at 1) ≡ false }
@@ -83,7 +84,8 @@ pub fn known_releases()
     ensures one { released 2 (six_at 3) ≡ buffer (ce ∷ shi ∷ mark ∷ shi ∷ []) 1 [] (test_at 0 ∷ []) }
     ensures past_cursor { released 2 (six_at 1) ≡ buffer (ce ∷ shi ∷ mark ∷ shi ∷ []) 0 [] (test_at 0 ∷ []) }
     ensures both { released 4 (six_at 6) ≡ buffer (mark ∷ shi ∷ []) 2 [] [] }
-    ensures later_break { released 1 (buffer six_cells 6 (1 ∷ 2 ∷ []) (test_at 2 ∷ [])) ≡ buffer (shi ∷ ce ∷ shi ∷ mark ∷ shi ∷ []) 5 (1 ∷ []) (test_at 1 ∷ []) }
+    ensures later_break { released 1 (buffer six_cells 6 (1 ∷ 2 ∷ []) (test_at 2 ∷ []))
+        ≡ buffer (shi ∷ ce ∷ shi ∷ mark ∷ shi ∷ []) 5 (1 ∷ []) (test_at 1 ∷ []) }
     ensures none { released 0 (six_at 3) ≡ six_at 3 }
     ensures moved { moved_to 5 (six_at 0) ≡ six_at 5 }
     ensures emptied { emptied (six_at 3) ≡ buffer [] 0 [] [] }

@@ -8,7 +8,8 @@ ghost use Rattle.chew_spec_preedit.specs.PlacedRun.{breaks_in, choices_in, place
 
 /// The runs of syllables that symbols part, each with the place of its first cell.
 pub fn known_runs()
-    ensures parted { runs_of (Sound 10268 ∷ Sound 8708 ∷ Symbol 33 ∷ Sound 107 ∷ []) ≡ record { start = 0; codes = 10268 ∷ 8708 ∷ [] } ∷ record { start = 3; codes = 107 ∷ [] } ∷ [] }
+    ensures parted { runs_of (Sound 10268 ∷ Sound 8708 ∷ Symbol 33 ∷ Sound 107 ∷ [])
+        ≡ record { start = 0; codes = 10268 ∷ 8708 ∷ [] } ∷ record { start = 3; codes = 107 ∷ [] } ∷ [] }
     ensures symbols { runs_of (Symbol 33 ∷ Symbol 32 ∷ []) ≡ [] }
     ensures behind { runs_of (Symbol 33 ∷ Symbol 32 ∷ Sound 107 ∷ Sound 8708 ∷ []) ≡ record { start = 2; codes = 107 ∷ 8708 ∷ [] } ∷ [] }
     ensures between { is_between_sounds (Sound 10268 ∷ Sound 8708 ∷ Symbol 33 ∷ []) 1 ≡ true }

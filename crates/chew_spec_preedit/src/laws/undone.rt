@@ -9,7 +9,10 @@ ghost use Rattle.chew_spec_preedit.specs.Edit.{backspaced, break_toggled, has_in
 /// that have the place: a break there, and a choice that has it strictly inside.
 pub fn backspace_undoes_insert()
     ensures same { (had : Buffer) (cell : Cell) → IsTrue (is_buffer had) → backspaced (inserted had cell)
-        ≡ record had { breaks = filter (λ at. not (at == had.cursor)) had.breaks; choices = filter (λ choice. not (has_inside had.cursor choice)) had.choices } }
+        ≡ record had {
+          breaks = filter (λ at. not (at == had.cursor)) had.breaks;
+          choices = filter (λ choice. not (has_inside had.cursor choice)) had.choices;
+        } }
 {}
 
 /// A break that is toggled twice is there, or is not, as before, and so are the others.

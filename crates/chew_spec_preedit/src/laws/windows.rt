@@ -11,7 +11,8 @@ ghost use Rattle.chew_spec_preedit.specs.Window.{CandidateList, Window, candidat
 pub fn lists_hold_every_candidate()
     ensures which { (rows : List Hit) (breaks : List ℕ) (n place : ℕ) (list : CandidateList)
         → Contains (candidate_lists rows breaks n place) list
-        ↔ ((1 ≤ list.len) × (list.len ≤ 11) × (list.len ≤ n - place) × (is_whole_at breaks place list.len ≡ true) × (list ≡ candidates_of rows place list.len) × (has_candidate list ≡ true)) }
+        ↔ ((1 ≤ list.len) × (list.len ≤ 11) × (list.len ≤ n - place) × (is_whole_at breaks place list.len ≡ true)
+        × (list ≡ candidates_of rows place list.len) × (has_candidate list ≡ true)) }
     ensures falling { (rows : List Hit) (breaks : List ℕ) (n place : ℕ) → is_falling (candidate_lists rows breaks n place) ≡ true }
     ensures filled { (rows : List Hit) (breaks : List ℕ) (n place : ℕ) → list_all has_candidate (candidate_lists rows breaks n place) ≡ true }
 {}

@@ -18,7 +18,8 @@ pub fn known_traces()
     ensures first { command_of (codes "run" ∷ (codes "--trace" ∷ (codes "s" ∷ (codes "k" ∷ (codes "f" ∷ []))))) ≡ Some (Run true 2 3 4 None) }
     ensures second { command_of (codes "run" ∷ (codes "s" ∷ (codes "--trace" ∷ (codes "k" ∷ (codes "f" ∷ []))))) ≡ Some (Run true 1 3 4 None) }
     ensures third { command_of (codes "run" ∷ (codes "s" ∷ (codes "k" ∷ (codes "--trace" ∷ (codes "f" ∷ (codes "t" ∷ [])))))) ≡ Some (Run true 1 2 4 (Some 5)) }
-    ensures fourth { command_of (codes "run" ∷ (codes "s" ∷ (codes "k" ∷ (codes "f" ∷ (codes "--trace" ∷ (codes "t" ∷ [])))))) ≡ Some (Run true 1 2 3 (Some 5)) }
+    ensures fourth { command_of (codes "run" ∷ (codes "s" ∷ (codes "k" ∷ (codes "f" ∷ (codes "--trace" ∷ (codes "t" ∷ []))))))
+        ≡ Some (Run true 1 2 3 (Some 5)) }
     ensures last { command_of (codes "run" ∷ (codes "s" ∷ (codes "k" ∷ (codes "f" ∷ (codes "--trace" ∷ []))))) ≡ Some (Run true 1 2 3 None) }
 {}
 

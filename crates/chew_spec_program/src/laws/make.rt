@@ -18,9 +18,11 @@ pub fn known_summaries()
     ensures one { summary_text (summary_of 2 6 (typed_over make_basis (typed (codes "hk4g4<E>"))))
         ≡ flat_map with_line_feed (codes "steps 2" ∷ (codes "keys 6" ∷ (codes "commits 1" ∷ (codes "entries 3" ∷ (codes "life 1" ∷ (codes "pairs 1" ∷ [])))))) }
     ensures two { summary_text (summary_of 12 10 (typed_over make_basis (typed (codes "hk4g4<E>g4<E><L>"))))
-        ≡ flat_map with_line_feed (codes "steps 12" ∷ (codes "keys 10" ∷ (codes "commits 2" ∷ (codes "entries 5" ∷ (codes "life 2" ∷ (codes "pairs 2" ∷ [])))))) }
+        ≡ flat_map with_line_feed
+        (codes "steps 12" ∷ (codes "keys 10" ∷ (codes "commits 2" ∷ (codes "entries 5" ∷ (codes "life 2" ∷ (codes "pairs 2" ∷ [])))))) }
     ensures again { summary_text (summary_of 4 12 (typed_over make_basis (typed (codes "hk4g4<E>hk4g4<E>"))))
-        ≡ flat_map with_line_feed (codes "steps 4" ∷ (codes "keys 12" ∷ (codes "commits 2" ∷ (codes "entries 6" ∷ (codes "life 2" ∷ (codes "pairs 1" ∷ [])))))) }
+        ≡ flat_map with_line_feed
+        (codes "steps 4" ∷ (codes "keys 12" ∷ (codes "commits 2" ∷ (codes "entries 6" ∷ (codes "life 2" ∷ (codes "pairs 1" ∷ [])))))) }
     ensures uncommitted { summary_text (summary_of 1 5 (typed_over make_basis (typed (codes "hk4g4"))))
         ≡ flat_map with_line_feed (codes "steps 1" ∷ (codes "keys 5" ∷ (codes "commits 0" ∷ (codes "entries 2" ∷ (codes "life 0" ∷ (codes "pairs 0" ∷ [])))))) }
 {}

@@ -170,7 +170,8 @@ pub fn complete_sessions<O: AnyOutside>()
 pub fn what_the_sink_took<O: AnyOutside>()
     ensures front { (inputs : Inputs) (trace : Bool) (ended : Ended) → IsDone inputs trace O.outside.sink O.outside.disk ended
         → (lines : List (List Line)) × (count : ℕ) × HandleAll inputs.basis ended.journal 1 inputs.script.contexts ended.handled lines
-        × (O.outside.sink.now ≡ appended O.outside.sink.before (take count (output (map (flat_map line_text) lines) ended.rounds (traced trace ended.journal)))) }
+        × (O.outside.sink.now ≡ appended O.outside.sink.before
+        (take count (output (map (flat_map line_text) lines) ended.rounds (traced trace ended.journal)))) }
     ensures lines { (inputs : Inputs) (trace : Bool) (ended : Ended) → IsDone inputs trace O.outside.sink O.outside.disk ended
         → (Rose O.outside.sink.faults_before O.outside.sink.faults_now → ⊥)
         → (lines : List (List Line)) × (entries : List Entry) × HandleAll inputs.basis ended.journal 1 inputs.script.contexts ended.handled lines

@@ -35,7 +35,8 @@ pub fn unwritten_rounds<D: AnyDisks>()
     ensures in_step { (keep : Keep) (start : Dictionary) (seen more : List Entry) (round : Round) → is_legal (start_of start) (seen ++ more) ≡ true
         → IsInStep keep D.now start seen → saved_number round ≡ None → KeepersCalls round (calls_of more 0) → IsInStep keep D.now start (seen ++ more) }
     ensures round { (keep : Keep) (start : Dictionary) (seen more : List Entry) (round : Round) → is_legal (start_of start) (seen ++ more) ≡ true
-        → IsInStep keep D.now start seen → saved_number round ≡ None → KeepersCalls round (calls_of more 0) → IsRound start seen (seen ++ more) D.now D.now round }
+        → IsInStep keep D.now start seen → saved_number round ≡ None
+        → KeepersCalls round (calls_of more 0) → IsRound start seen (seen ++ more) D.now D.now round }
 {}
 
 /// A round that fails in writing the map after the entries up to what waits.

@@ -27,6 +27,7 @@ pub fn all_saved_is_whole<D: AnyDisks>()
 
 /// A saved round that found nothing waiting, and in which nobody but the keeper made an entry, leaves nothing to save.
 pub fn a_last_round_saves_all<D: AnyDisks>()
-    ensures { (start : Dictionary) (seen seen_then : List Entry) (number : ℕ) → is_legal (start_of start) seen_then ≡ true → (shape_after start seen).waiting ≡ None
+    ensures { (start : Dictionary) (seen seen_then : List Entry) (number : ℕ)
+        → is_legal (start_of start) seen_then ≡ true → (shape_after start seen).waiting ≡ None
         → (round : IsRound start seen seen_then D.before D.now (Saved number)) → ((who : ℕ) → who ≢ 0 → own round.more who ≡ []) → IsAllSaved start seen_then }
 {}

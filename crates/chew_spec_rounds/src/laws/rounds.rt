@@ -23,8 +23,10 @@ pub fn what_rounds_install<D: AnyDisks>()
         → IsRound start seen seen_then D.before D.now (Saved number) → shape_after start seen_then ≡ record { installed = number; waiting = None } }
     ensures same { (start : Dictionary) (seen seen_then : List Entry) (round : Round) → is_legal (start_of start) seen_then ≡ true → saved_number round ≡ None
         → IsRound start seen seen_then D.before D.now round → (shape_after start seen_then).installed ≡ (shape_after start seen).installed }
-    ensures waits { (start : Dictionary) (seen seen_then : List Entry) (round : Round) (number : ℕ) → is_legal (start_of start) seen_then ≡ true → saved_number round ≡ None
-        → IsRound start seen seen_then D.before D.now round → (shape_after start seen).waiting ≡ Some number → (shape_after start seen_then).waiting ≡ Some number }
+    ensures waits { (start : Dictionary) (seen seen_then : List Entry) (round : Round) (number : ℕ)
+        → is_legal (start_of start) seen_then ≡ true → saved_number round ≡ None
+        → IsRound start seen seen_then D.before D.now round → (shape_after start seen).waiting ≡ Some number
+        → (shape_after start seen_then).waiting ≡ Some number }
     ensures frozen { (start : Dictionary) (seen seen_then : List Entry) (step : ℕ) → is_legal (start_of start) seen_then ≡ true
         → IsRound start seen seen_then D.before D.now (DiskFault step) → (number : ℕ) × ((shape_after start seen_then).waiting ≡ Some number) }
 {}

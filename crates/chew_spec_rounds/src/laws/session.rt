@@ -32,8 +32,10 @@ pub fn sessions_go_on<D: AnyDisks>()
     ensures in_step { (keep : Keep) (start : Dictionary) → IsInStep keep D.now start [] → IsSession start [] D.now.moment D.now [] }
     ensures reads { (start : Dictionary) (history : List Entry) (from : ℕ) (rounds : List Round) → is_legal (start_of start) history ≡ true → IsDisk D.before
         → IsSession start history from D.before rounds → OnlyReads D.before D.now → IsSession start history from D.now rounds }
-    ensures round { (start : Dictionary) (seen seen_then : List Entry) (from : ℕ) (rounds : List Round) (round : Round) → is_legal (start_of start) seen_then ≡ true
-        → IsSession start seen from D.before rounds → IsRound start seen seen_then D.before D.now round → IsSession start seen_then from D.now (rounds ++ round ∷ []) }
+    ensures round { (start : Dictionary) (seen seen_then : List Entry) (from : ℕ) (rounds : List Round) (round : Round)
+        → is_legal (start_of start) seen_then ≡ true
+        → IsSession start seen from D.before rounds → IsRound start seen seen_then D.before D.now round
+        → IsSession start seen_then from D.now (rounds ++ round ∷ []) }
     ensures others { (start : Dictionary) (seen history : List Entry) (from : ℕ) (rounds : List Round) → is_legal (start_of start) history ≡ true
         → IsSession start seen from D.now rounds → GrowsByOthers seen history → IsSession start history from D.now rounds }
 {}

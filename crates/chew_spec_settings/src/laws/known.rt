@@ -8,7 +8,8 @@ ghost use Rattle.chew_spec_settings.specs.SettingsText.{settings_of};
 /// The settings of the empty text and of a comment; of a text with every key, in another order than theirs; and of a number
 /// that is written in another way.
 pub fn known_settings()
-    ensures empty { settings_of [] ≡ Ok (record { layout = Standard; buffer = 10; page = 10; selection = codes "1234567890"; escape_clears = false; learn = true; cap = 65_536 }) }
+    ensures empty { settings_of []
+        ≡ Ok (record { layout = Standard; buffer = 10; page = 10; selection = codes "1234567890"; escape_clears = false; learn = true; cap = 65_536 }) }
     ensures comment { settings_of (codes "# buffer = 40\n") ≡ Ok standard_settings }
     ensures all { settings_of (codes "cap = 200_000\nlearn = false\nescape_clears = true\nselection = 'asdfghjkl;'\npage = 9\nbuffer = 2\nlayout = 'hsu'")
         ≡ Ok (record { layout = Hsu; buffer = 2; page = 9; selection = codes "asdfghjkl;"; escape_clears = true; learn = false; cap = 200_000 }) }

@@ -34,7 +34,8 @@ pub fn found_slots_fit<D: AnyDisk>()
     ensures fits { (checkpoint : Checkpoint) → IsDisk D.disk → IsSettled D.disk 0 → IsSettled D.disk 1 →
         recovered (D.disk.reads 0) (D.disk.reads 1) ≡ Recovered checkpoint → Fits (found_keep (D.disk.reads 0) (D.disk.reads 1)) D.disk }
     ensures state { (checkpoint : Checkpoint) → IsDisk D.disk → IsSettled D.disk 0 → IsSettled D.disk 1 →
-        recovered (D.disk.reads 0) (D.disk.reads 1) ≡ Recovered checkpoint → acknowledged_state (found_keep (D.disk.reads 0) (D.disk.reads 1)) D.disk ≡ checkpoint }
+        recovered (D.disk.reads 0) (D.disk.reads 1) ≡ Recovered checkpoint
+        → acknowledged_state (found_keep (D.disk.reads 0) (D.disk.reads 1)) D.disk ≡ checkpoint }
     ensures left { (checkpoint : Checkpoint) → IsDisk D.disk → IsSettled D.disk 0 → IsSettled D.disk 1 →
         recovered (D.disk.reads 0) (D.disk.reads 1) ≡ Recovered checkpoint → left_state (found_keep (D.disk.reads 0) (D.disk.reads 1)) D.disk ≡ None }
 {}

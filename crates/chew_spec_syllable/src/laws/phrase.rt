@@ -10,7 +10,8 @@ pub fn known_characters()
     ensures below { filter is_allowed (range_with_len 0 0xA1) ≡ [] }
     ensures inverted_mark { IsTrue (is_allowed 0xA1) }
     ensures ogham_space { IsFalse (is_allowed 0x1680) }
-    ensures general_spaces { filter (λ character. not (is_allowed character)) (range_with_len 0x1FF0 0x71) ≡ range_with_len 0x2000 11 ++ (0x2028 ∷ (0x2029 ∷ (0x202F ∷ (0x205F ∷ [])))) }
+    ensures general_spaces { filter (λ character. not (is_allowed character)) (range_with_len 0x1FF0 0x71)
+        ≡ range_with_len 0x2000 11 ++ (0x2028 ∷ (0x2029 ∷ (0x202F ∷ (0x205F ∷ [])))) }
     ensures zero_width_space { IsTrue (is_allowed 0x200B) }
     ensures wide_space { IsFalse (is_allowed 0x3000) }
     ensures byte_order_mark { IsTrue (is_allowed 0xFEFF) }

@@ -36,7 +36,8 @@ pub fn known_pairs()
 /// A row is a pair with a frequency of at most 99,999,999, at any time.
 pub fn known_rows()
     ensures least { IsTrue (is_row (record { key = 10268 ∷ []; phrase = encode_utf8_all (codes "測"); freq = 0; time = 0 })) }
-    ensures greatest { IsTrue (is_row (record { key = 10268 ∷ []; phrase = encode_utf8_all (codes "測"); freq = 99_999_999; time = 18_446_744_073_709_551_615 })) }
+    ensures greatest { IsTrue
+        (is_row (record { key = 10268 ∷ []; phrase = encode_utf8_all (codes "測"); freq = 99_999_999; time = 18_446_744_073_709_551_615 })) }
     ensures too_great { IsFalse (is_row (record { key = 10268 ∷ []; phrase = encode_utf8_all (codes "測"); freq = 100_000_000; time = 0 })) }
     ensures no_pair { IsFalse (is_row (record { key = 10268 ∷ (8708 ∷ []); phrase = encode_utf8_all (codes "測"); freq = 0; time = 0 })) }
 {}
@@ -45,15 +46,20 @@ pub fn known_rows()
 /// places have rows of one pair.
 pub fn pairs_are_apart()
     ensures pair { (key phrase : List ℕ) (row : Row) → IsTrue (is_pair_of key phrase row) ↔ ((row.key ≡ key) × (row.phrase ≡ phrase)) }
-    ensures once { (rows : List Row) (i j : ℕ) (a b : Row) → IsTrue (no_pair_twice rows) → slice_get rows i ≡ Some a → slice_get rows j ≡ Some b → a.key ≡ b.key → a.phrase ≡ b.phrase → i ≡ j }
-    ensures back { (rows : List Row) → ((i j : ℕ) (a b : Row) → slice_get rows i ≡ Some a → slice_get rows j ≡ Some b → a.key ≡ b.key → a.phrase ≡ b.phrase → i ≡ j) → IsTrue (no_pair_twice rows) }
+    ensures once { (rows : List Row) (i j : ℕ) (a b : Row) → IsTrue (no_pair_twice rows)
+        → slice_get rows i ≡ Some a → slice_get rows j ≡ Some b → a.key ≡ b.key → a.phrase ≡ b.phrase → i ≡ j }
+    ensures back { (rows : List Row)
+        → ((i j : ℕ) (a b : Row) → slice_get rows i ≡ Some a → slice_get rows j ≡ Some b → a.key ≡ b.key → a.phrase ≡ b.phrase → i ≡ j)
+        → IsTrue (no_pair_twice rows) }
 {}
 
 /// Image order is a total order of rows: by the keys' lengths, then their codes, then the phrases' bytes. Exactly the
 /// rows of one pair are equal in it.
 pub fn image_order()
     ensures total { IsTotalOrder image_cmp }
-    ensures order { (row other : Row) → image_cmp row other ≡ ordering_then (nat_cmp (length row.key) (length other.key)) (ordering_then (slice_cmp nat_cmp row.key other.key) (slice_cmp nat_cmp row.phrase other.phrase)) }
+    ensures order { (row other : Row)
+        → image_cmp row other ≡ ordering_then (nat_cmp (length row.key) (length other.key))
+        (ordering_then (slice_cmp nat_cmp row.key other.key) (slice_cmp nat_cmp row.phrase other.phrase)) }
     ensures same_key { (row other : Row) → image_cmp row other ≡ Equal → row.key ≡ other.key }
     ensures same_phrase { (row other : Row) → image_cmp row other ≡ Equal → row.phrase ≡ other.phrase }
     ensures same_pair { (row other : Row) → row.key ≡ other.key → row.phrase ≡ other.phrase → image_cmp row other ≡ Equal }

@@ -28,10 +28,13 @@ pub fn known_limits()
 /// The marks of all parts by their numbers, the initials and the finals behind ㄧ, and the tones of ㄚ, of which the first has
 /// no mark.
 pub fn known_marks()
-    ensures initials { flat_map (λ n. text_of (record { initial = n; medial = 1; final = 0; tone = 0 })) (range_with_len 1 21) ≡ encode_utf8_all (codes "ㄅㄧㄆㄧㄇㄧㄈㄧㄉㄧㄊㄧㄋㄧㄌㄧㄍㄧㄎㄧㄏㄧㄐㄧㄑㄧㄒㄧㄓㄧㄔㄧㄕㄧㄖㄧㄗㄧㄘㄧㄙㄧ") }
+    ensures initials { flat_map (λ n. text_of (record { initial = n; medial = 1; final = 0; tone = 0 })) (range_with_len 1 21)
+        ≡ encode_utf8_all (codes "ㄅㄧㄆㄧㄇㄧㄈㄧㄉㄧㄊㄧㄋㄧㄌㄧㄍㄧㄎㄧㄏㄧㄐㄧㄑㄧㄒㄧㄓㄧㄔㄧㄕㄧㄖㄧㄗㄧㄘㄧㄙㄧ") }
     ensures medials { flat_map (λ n. text_of (record { initial = 0; medial = n; final = 0; tone = 0 })) (range_with_len 1 3) ≡ encode_utf8_all (codes "ㄧㄨㄩ") }
-    ensures finals { flat_map (λ n. text_of (record { initial = 0; medial = 1; final = n; tone = 0 })) (range_with_len 1 13) ≡ encode_utf8_all (codes "ㄧㄚㄧㄛㄧㄜㄧㄝㄧㄞㄧㄟㄧㄠㄧㄡㄧㄢㄧㄣㄧㄤㄧㄥㄧㄦ") }
-    ensures tones { flat_map (λ n. text_of (record { initial = 0; medial = 0; final = 1; tone = n })) (range_with_len 0 5) ≡ encode_utf8_all (codes "ㄚㄚ˙ㄚˊㄚˇㄚˋ") }
+    ensures finals { flat_map (λ n. text_of (record { initial = 0; medial = 1; final = n; tone = 0 })) (range_with_len 1 13)
+        ≡ encode_utf8_all (codes "ㄧㄚㄧㄛㄧㄜㄧㄝㄧㄞㄧㄟㄧㄠㄧㄡㄧㄢㄧㄣㄧㄤㄧㄥㄧㄦ") }
+    ensures tones { flat_map (λ n. text_of (record { initial = 0; medial = 0; final = 1; tone = n })) (range_with_len 0 5)
+        ≡ encode_utf8_all (codes "ㄚㄚ˙ㄚˊㄚˇㄚˋ") }
 {}
 
 /// ㄘㄜˋ is 10268, ㄕˋ is 8708 and ㄧㄚ, of the first tone, is 136, from their texts and back.

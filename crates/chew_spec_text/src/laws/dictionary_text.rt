@@ -31,7 +31,8 @@ pub fn known_rows()
 /// characters are part of a field.
 pub fn known_fields()
     ensures parted { fields_of (codes " a \tb\t\tc ") ≡ codes "a" ∷ (codes "b" ∷ (codes "c" ∷ [])) }
-    ensures not_parted { fields_of (97 ∷ (11 ∷ (12 ∷ (13 ∷ (0 ∷ (31 ∷ (33 ∷ (8 ∷ (10 ∷ (0x85 ∷ (0xA0 ∷ (44 ∷ (98 ∷ []))))))))))))) ≡ (97 ∷ (11 ∷ (12 ∷ (13 ∷ (0 ∷ (31 ∷ (33 ∷ (8 ∷ (10 ∷ (0x85 ∷ (0xA0 ∷ (44 ∷ (98 ∷ []))))))))))))) ∷ [] }
+    ensures not_parted { fields_of (97 ∷ (11 ∷ (12 ∷ (13 ∷ (0 ∷ (31 ∷ (33 ∷ (8 ∷ (10 ∷ (0x85 ∷ (0xA0 ∷ (44 ∷ (98 ∷ [])))))))))))))
+        ≡ (97 ∷ (11 ∷ (12 ∷ (13 ∷ (0 ∷ (31 ∷ (33 ∷ (8 ∷ (10 ∷ (0x85 ∷ (0xA0 ∷ (44 ∷ (98 ∷ []))))))))))))) ∷ [] }
     ensures comment { fields_of (codes "a b#c # d") ≡ codes "a" ∷ (codes "b" ∷ []) }
     ensures none { fields_of (codes " \t # a") ≡ [] }
 {}
@@ -65,16 +66,22 @@ pub fn rows_of_a_text()
 /// At most 250,000 rows with no pair twice, printed a line each, are no longer than 64 MiB and are read as themselves
 /// without their times; the 250,001st is refused, and one whose pair stands in an earlier row for that.
 pub fn printed_rows()
-    ensures read { (rows : List Row) → IsTrue (list_all is_row rows) → IsTrue (no_pair_twice rows) → length rows ≤ 250_000 → dictionary_rows (rows_text rows) ≡ Ok (map without_time rows) }
+    ensures read { (rows : List Row) → IsTrue (list_all is_row rows) → IsTrue (no_pair_twice rows)
+        → length rows ≤ 250_000 → dictionary_rows (rows_text rows) ≡ Ok (map without_time rows) }
     ensures short { (rows : List Row) → IsTrue (list_all is_row rows) → length rows ≤ 250_000 → length (rows_text rows) ≤ 67_108_864 }
-    ensures one_more { (rows : List Row) (row : Row) → IsTrue (list_all is_row (rows ++ row ∷ [])) → IsTrue (no_pair_twice (rows ++ row ∷ [])) → length rows ≡ 250_000 → dictionary_rows (rows_text (rows ++ row ∷ [])) ≡ Err (record { line = 250_001; cause = Rows }) }
-    ensures twice_first { (rows : List Row) (row : Row) → IsTrue (list_all is_row (rows ++ row ∷ [])) → IsTrue (no_pair_twice rows) → IsTrue (list_any (is_pair_of row.key row.phrase) rows) → length rows ≡ 250_000 → dictionary_rows (rows_text (rows ++ row ∷ [])) ≡ Err (record { line = 250_001; cause = Twice }) }
+    ensures one_more { (rows : List Row) (row : Row) → IsTrue (list_all is_row (rows ++ row ∷ [])) → IsTrue (no_pair_twice (rows ++ row ∷ []))
+        → length rows ≡ 250_000 → dictionary_rows (rows_text (rows ++ row ∷ [])) ≡ Err (record { line = 250_001; cause = Rows }) }
+    ensures twice_first { (rows : List Row) (row : Row) → IsTrue (list_all is_row (rows ++ row ∷ [])) → IsTrue (no_pair_twice rows)
+        → IsTrue (list_any (is_pair_of row.key row.phrase) rows) → length rows ≡ 250_000
+        → dictionary_rows (rows_text (rows ++ row ∷ [])) ≡ Err (record { line = 250_001; cause = Twice }) }
 {}
 
 /// The five rows as they are printed, byte for byte; a row's frequency has no zeros in front, and its time isn't told.
 pub fn known_rows_printed()
     ensures five { rows_text five_rows ≡ flat_map with_line_feed five_lines }
-    ensures bytes { rows_text (record { key = ce4 ∷ (8708 ∷ []); phrase = bytes_of "測試"; freq = 20; time = 7 } ∷ []) ≡ 0xE6 ∷ (0xB8 ∷ (0xAC ∷ (0xE8 ∷ (0xA9 ∷ (0xA6 ∷ (32 ∷ (50 ∷ (48 ∷ (32 ∷ (0xE3 ∷ (0x84 ∷ (0x98 ∷ (0xE3 ∷ (0x84 ∷ (0x9C ∷ (0xCB ∷ (0x8B ∷ (32 ∷ (0xE3 ∷ (0x84 ∷ (0x95 ∷ (0xCB ∷ (0x8B ∷ (10 ∷ [])))))))))))))))))))))))) }
+    ensures bytes { rows_text (record { key = ce4 ∷ (8708 ∷ []); phrase = bytes_of "測試"; freq = 20; time = 7 } ∷ [])
+        ≡ 0xE6 ∷ (0xB8 ∷ (0xAC ∷ (0xE8 ∷ (0xA9 ∷ (0xA6 ∷ (32 ∷ (50 ∷ (48 ∷ (32 ∷ (0xE3 ∷ (0x84 ∷ (0x98 ∷ (0xE3 ∷ (0x84
+        ∷ (0x9C ∷ (0xCB ∷ (0x8B ∷ (32 ∷ (0xE3 ∷ (0x84 ∷ (0x95 ∷ (0xCB ∷ (0x8B ∷ (10 ∷ [])))))))))))))))))))))))) }
     ensures zero { rows_text (row_at_start (ce4 ∷ []) (bytes_of "測") 0 ∷ []) ≡ with_line_feed (bytes_of "測 0 ㄘㄜˋ") }
     ensures none { rows_text [] ≡ [] }
 {}
@@ -86,14 +93,20 @@ pub fn lines_of_row_faults()
     ensures whole { (text : List ℕ) (fault : Fault RowCause) → dictionary_rows text ≡ Err fault → fault.line ≡ 0 → fault.cause ≡ Size }
     ensures size { (text : List ℕ) (fault : Fault RowCause) → dictionary_rows text ≡ Err fault → fault.cause ≡ Size → 67_108_864 < length text }
     ensures at_most { (text : List ℕ) (fault : Fault RowCause) → dictionary_rows text ≡ Err fault → fault.line ≤ length (lines_of text) }
-    ensures later { (text other : List ℕ) (fault : Fault RowCause) → dictionary_rows text ≡ Err fault → 0 < fault.line → length other ≤ 67_108_864 → take fault.line (lines_of other) ≡ take fault.line (lines_of text) → dictionary_rows other ≡ Err fault }
+    ensures later { (text other : List ℕ) (fault : Fault RowCause) → dictionary_rows text ≡ Err fault → 0 < fault.line
+        → length other ≤ 67_108_864 → take fault.line (lines_of other) ≡ take fault.line (lines_of text) → dictionary_rows other ≡ Err fault }
 {}
 
 /// In a dictionary, carriage returns at the ends of lines change nothing, nor does a comment behind a line: lines say
 /// what their fields say. Lines without fields change nothing but the number of a faulty line.
 pub fn what_changes_no_row()
-    ensures returns { (lines : List (List ℕ)) → IsTrue (list_all is_line lines) → map without_return lines ≡ lines → length (flat_map with_line_feed (map with_return lines)) ≤ 67_108_864 → dictionary_rows (flat_map with_line_feed (map with_return lines)) ≡ dictionary_rows (flat_map with_line_feed lines) }
+    ensures returns { (lines : List (List ℕ)) → IsTrue (list_all is_line lines) → map without_return lines ≡ lines
+        → length (flat_map with_line_feed (map with_return lines)) ≤ 67_108_864
+        → dictionary_rows (flat_map with_line_feed (map with_return lines)) ≡ dictionary_rows (flat_map with_line_feed lines) }
     ensures comment { (line comment : List ℕ) → fields_of (line ++ (35 ∷ comment)) ≡ fields_of line }
-    ensures fields { (text other : List ℕ) → length text ≤ 67_108_864 → length other ≤ 67_108_864 → map fields_of (lines_of text) ≡ map fields_of (lines_of other) → dictionary_rows text ≡ dictionary_rows other }
-    ensures lines { (text other : List ℕ) → length text ≤ 67_108_864 → length other ≤ 67_108_864 → filter (λ line. nat_lt 0 (length (fields_of line))) (lines_of text) ≡ filter (λ line. nat_lt 0 (length (fields_of line))) (lines_of other) → but_for_line (dictionary_rows text) ≡ but_for_line (dictionary_rows other) }
+    ensures fields { (text other : List ℕ) → length text ≤ 67_108_864 → length other ≤ 67_108_864
+        → map fields_of (lines_of text) ≡ map fields_of (lines_of other) → dictionary_rows text ≡ dictionary_rows other }
+    ensures lines { (text other : List ℕ) → length text ≤ 67_108_864 → length other ≤ 67_108_864
+        → filter (λ line. nat_lt 0 (length (fields_of line))) (lines_of text) ≡ filter (λ line. nat_lt 0 (length (fields_of line))) (lines_of other)
+        → but_for_line (dictionary_rows text) ≡ but_for_line (dictionary_rows other) }
 {}

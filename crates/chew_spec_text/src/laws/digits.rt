@@ -6,8 +6,10 @@ ghost use Rattle.chew_spec_text.specs.Digits.{number_up_to};
 /// Digits write a number, with any number of zeros in front; other bytes, also the two beside the digits, and the empty
 /// text write none, and neither do digits of a greater number.
 pub fn known_numbers()
-    ensures numbers { map (number_up_to 200) (codes "7" ∷ (codes "007" ∷ (codes "0" ∷ (codes "199" ∷ (codes "00200" ∷ []))))) ≡ map Some (7 ∷ (7 ∷ (0 ∷ (199 ∷ (200 ∷ []))))) }
-    ensures beside { map (number_up_to 200) (codes "1/" ∷ (codes ":1" ∷ (codes "+1" ∷ (codes "-1" ∷ (codes "1 " ∷ (codes "0x1" ∷ [])))))) ≡ None ∷ (None ∷ (None ∷ (None ∷ (None ∷ (None ∷ []))))) }
+    ensures numbers { map (number_up_to 200) (codes "7" ∷ (codes "007" ∷ (codes "0" ∷ (codes "199" ∷ (codes "00200" ∷ [])))))
+        ≡ map Some (7 ∷ (7 ∷ (0 ∷ (199 ∷ (200 ∷ []))))) }
+    ensures beside { map (number_up_to 200) (codes "1/" ∷ (codes ":1" ∷ (codes "+1" ∷ (codes "-1" ∷ (codes "1 " ∷ (codes "0x1" ∷ []))))))
+        ≡ None ∷ (None ∷ (None ∷ (None ∷ (None ∷ (None ∷ []))))) }
     ensures empty { number_up_to 200 [] ≡ None }
     ensures greater { number_up_to 200 (codes "201") ≡ None }
 {}

@@ -12,8 +12,10 @@ pub fn known_names()
     ensures adding { keys_in (codes "<C2><C3><C4><C5><C6><C7><C8><C9>") ≡ Some (map Add (2 ∷ (3 ∷ (4 ∷ (5 ∷ (6 ∷ (7 ∷ (8 ∷ (9 ∷ []))))))))) }
     ensures forgetting { keys_in (codes "<F1><F2><F3><F4><F5><F6><F7><F8><F9>") ≡ Some (map Forget (1 ∷ (2 ∷ (3 ∷ (4 ∷ (5 ∷ (6 ∷ (7 ∷ (8 ∷ (9 ∷ [])))))))))) }
     ensures hiding { keys_in (codes "<K2><K3><K4><K5><K6><K7><K8><K9>") ≡ Some (map Hide (2 ∷ (3 ∷ (4 ∷ (5 ∷ (6 ∷ (7 ∷ (8 ∷ (9 ∷ []))))))))) }
-    ensures no_names { map key_named (codes "C1" ∷ (codes "C10" ∷ (codes "F0" ∷ (codes "F10" ∷ (codes "K1" ∷ (codes "K10" ∷ [])))))) ≡ None ∷ (None ∷ (None ∷ (None ∷ (None ∷ (None ∷ []))))) }
-    ensures other_words { map key_named (codes "e" ∷ (codes "Q" ∷ (codes "LT" ∷ (codes "EE" ∷ (codes "C02" ∷ (codes "C" ∷ (codes " E" ∷ ([] ∷ [])))))))) ≡ None ∷ (None ∷ (None ∷ (None ∷ (None ∷ (None ∷ (None ∷ (None ∷ []))))))) }
+    ensures no_names { map key_named (codes "C1" ∷ (codes "C10" ∷ (codes "F0" ∷ (codes "F10" ∷ (codes "K1" ∷ (codes "K10" ∷ []))))))
+        ≡ None ∷ (None ∷ (None ∷ (None ∷ (None ∷ (None ∷ []))))) }
+    ensures other_words { map key_named (codes "e" ∷ (codes "Q" ∷ (codes "LT" ∷ (codes "EE" ∷ (codes "C02" ∷ (codes "C" ∷ (codes " E" ∷ ([] ∷ []))))))))
+        ≡ None ∷ (None ∷ (None ∷ (None ∷ (None ∷ (None ∷ (None ∷ (None ∷ []))))))) }
 {}
 
 /// Characters stand for themselves, also '>'; a '<' that begins no name gives no keys.
@@ -31,7 +33,8 @@ pub fn known_keys()
 /// The keys of a text, printed, are the text, and where its characters are printable they are keys of a script; and
 /// keys of a script, printed, are read as themselves.
 pub fn printed_keys()
-    ensures in_range { (text : List ℕ) (keys : List KeyStroke) → IsTrue (list_all is_printable text) → keys_in text ≡ Some keys → IsTrue (list_all is_key_stroke keys) }
+    ensures in_range { (text : List ℕ) (keys : List KeyStroke) → IsTrue (list_all is_printable text)
+        → keys_in text ≡ Some keys → IsTrue (list_all is_key_stroke keys) }
     ensures text { (text : List ℕ) (keys : List KeyStroke) → keys_in text ≡ Some keys → flat_map key_text keys ≡ text }
     ensures read { (keys : List KeyStroke) → IsTrue (list_all is_key_stroke keys) → keys_in (flat_map key_text keys) ≡ Some keys }
 {}

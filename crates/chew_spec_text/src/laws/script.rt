@@ -16,8 +16,10 @@ pub fn known_scripts()
     ensures ended { script_of (with_line_feed (with_return (codes "1:hk4"))) ≡ Ok (record { contexts = map Char (codes "hk4") ∷ []; rounds = 0 }) }
     ensures empty { script_of [] ≡ Ok (record { contexts = []; rounds = 0 }) }
     ensures third { script_of (codes "3:") ≡ Ok (record { contexts = [] ∷ ([] ∷ ([] ∷ [])); rounds = 0 }) }
-    ensures joined { script_of (flat_map with_line_feed (codes "2:hk" ∷ (codes "1: " ∷ (codes "2:4" ∷ [])))) ≡ Ok (record { contexts = map Char (codes " ") ∷ (map Char (codes "hk4") ∷ []); rounds = 0 }) }
-    ensures rounds { script_of (flat_map with_line_feed (codes "round" ∷ ([] ∷ ((35 ∷ (0x80 ∷ [])) ∷ (codes "round" ∷ []))))) ≡ Ok (record { contexts = []; rounds = 2 }) }
+    ensures joined { script_of (flat_map with_line_feed (codes "2:hk" ∷ (codes "1: " ∷ (codes "2:4" ∷ []))))
+        ≡ Ok (record { contexts = map Char (codes " ") ∷ (map Char (codes "hk4") ∷ []); rounds = 0 }) }
+    ensures rounds { script_of (flat_map with_line_feed (codes "round" ∷ ([] ∷ ((35 ∷ (0x80 ∷ [])) ∷ (codes "round" ∷ [])))))
+        ≡ Ok (record { contexts = []; rounds = 2 }) }
     ensures hash { script_of (codes "1:#\n#1:h") ≡ Ok (record { contexts = map Char (codes "#") ∷ []; rounds = 0 }) }
     ensures two_digits { script_of (codes "12:") ≡ Ok (record { contexts = replicate 12 []; rounds = 0 }) }
     ensures least_and_greatest { script_of (codes "1:" ++ (32 ∷ (126 ∷ []))) ≡ Ok (record { contexts = (Char 32 ∷ (Char 126 ∷ [])) ∷ []; rounds = 0 }) }
@@ -55,9 +57,12 @@ pub fn many_rounds()
 /// At most 65,536 keys of a script, printed behind `1:`, are read as the keys of the first context; the 65,537th is
 /// refused, but where a `<` behind the keys begins no name that is told first.
 pub fn printed_line_of_keys()
-    ensures read { (keys : List KeyStroke) → IsTrue (list_all is_key_stroke keys) → length keys ≤ 65_536 → script_of (codes "1:" ++ flat_map key_text keys) ≡ Ok (record { contexts = keys ∷ []; rounds = 0 }) }
-    ensures one_more { (keys : List KeyStroke) → IsTrue (list_all is_key_stroke keys) → length keys ≡ 65_537 → script_of (codes "1:" ++ flat_map key_text keys) ≡ Err (record { line = 1; cause = Keys }) }
-    ensures key_first { (keys : List KeyStroke) → IsTrue (list_all is_key_stroke keys) → length keys ≤ 65_537 → script_of (codes "1:" ++ (flat_map key_text keys ++ codes "<")) ≡ Err (record { line = 1; cause = Key }) }
+    ensures read { (keys : List KeyStroke) → IsTrue (list_all is_key_stroke keys) → length keys ≤ 65_536
+        → script_of (codes "1:" ++ flat_map key_text keys) ≡ Ok (record { contexts = keys ∷ []; rounds = 0 }) }
+    ensures one_more { (keys : List KeyStroke) → IsTrue (list_all is_key_stroke keys) → length keys ≡ 65_537
+        → script_of (codes "1:" ++ flat_map key_text keys) ≡ Err (record { line = 1; cause = Keys }) }
+    ensures key_first { (keys : List KeyStroke) → IsTrue (list_all is_key_stroke keys) → length keys ≤ 65_537
+        → script_of (codes "1:" ++ (flat_map key_text keys ++ codes "<")) ≡ Err (record { line = 1; cause = Key }) }
 {}
 
 /// A script has at most 16 contexts, 65,536 keys and 64 rounds, and each key is one that a script can name.
@@ -71,8 +76,10 @@ pub fn limits_of_a_script()
 /// The keys of a context are those of its lines, joined in their order; there are as many contexts as the greatest
 /// number of a line of keys says, and as many rounds as lines that ask for one.
 pub fn scripts_by_their_lines()
-    ensures keys { (text : List ℕ) (script : Script) (place : ℕ) → script_of text ≡ Ok script → slice_index_or script.contexts place [] ≡ flat_map (keys_for (place + 1)) (lines_of text) }
-    ensures contexts { (text : List ℕ) (script : Script) → script_of text ≡ Ok script → length script.contexts ≡ fold (λ greatest line. max greatest (context_of line)) 0 (lines_of text) }
+    ensures keys { (text : List ℕ) (script : Script) (place : ℕ) → script_of text ≡ Ok script
+        → slice_index_or script.contexts place [] ≡ flat_map (keys_for (place + 1)) (lines_of text) }
+    ensures contexts { (text : List ℕ) (script : Script) → script_of text ≡ Ok script
+        → length script.contexts ≡ fold (λ greatest line. max greatest (context_of line)) 0 (lines_of text) }
     ensures rounds { (text : List ℕ) (script : Script) → script_of text ≡ Ok script → script.rounds ≡ count_by is_round (lines_of text) }
 {}
 
@@ -83,12 +90,16 @@ pub fn lines_of_script_faults()
     ensures whole { (text : List ℕ) (fault : Fault ScriptCause) → script_of text ≡ Err fault → fault.line ≡ 0 → fault.cause ≡ Size }
     ensures size { (text : List ℕ) (fault : Fault ScriptCause) → script_of text ≡ Err fault → fault.cause ≡ Size → 1_048_576 < length text }
     ensures at_most { (text : List ℕ) (fault : Fault ScriptCause) → script_of text ≡ Err fault → fault.line ≤ length (lines_of text) }
-    ensures later { (text other : List ℕ) (fault : Fault ScriptCause) → script_of text ≡ Err fault → 0 < fault.line → length other ≤ 1_048_576 → take fault.line (lines_of other) ≡ take fault.line (lines_of text) → script_of other ≡ Err fault }
+    ensures later { (text other : List ℕ) (fault : Fault ScriptCause) → script_of text ≡ Err fault → 0 < fault.line
+        → length other ≤ 1_048_576 → take fault.line (lines_of other) ≡ take fault.line (lines_of text) → script_of other ≡ Err fault }
 {}
 
 /// In a script, carriage returns at the ends of lines change nothing; nor do comments and empty lines, but for the
 /// number of a faulty line.
 pub fn what_changes_no_script()
-    ensures returns { (lines : List (List ℕ)) → IsTrue (list_all is_line lines) → map without_return lines ≡ lines → length (flat_map with_line_feed (map with_return lines)) ≤ 1_048_576 → script_of (flat_map with_line_feed (map with_return lines)) ≡ script_of (flat_map with_line_feed lines) }
-    ensures lines { (text other : List ℕ) → length text ≤ 1_048_576 → length other ≤ 1_048_576 → filter says_something (lines_of text) ≡ filter says_something (lines_of other) → but_for_line (script_of text) ≡ but_for_line (script_of other) }
+    ensures returns { (lines : List (List ℕ)) → IsTrue (list_all is_line lines) → map without_return lines ≡ lines
+        → length (flat_map with_line_feed (map with_return lines)) ≤ 1_048_576
+        → script_of (flat_map with_line_feed (map with_return lines)) ≡ script_of (flat_map with_line_feed lines) }
+    ensures lines { (text other : List ℕ) → length text ≤ 1_048_576 → length other ≤ 1_048_576
+        → filter says_something (lines_of text) ≡ filter says_something (lines_of other) → but_for_line (script_of text) ≡ but_for_line (script_of other) }
 {}
