@@ -191,6 +191,31 @@ own-best system buffer run reply pieces after p own can e =
     ∙ (ap (map (piece_back run.start)) (renewed-own run best pieces p (covered-begin run best own)) ∙ on-and-back run.start (best_pieces hits breaks choices n)) in
     subst (IsBest (usable_in system buffer run (hits_in reply)) n) (sym same) (IsBest-from_CanSegment hits breaks choices n can)
 
+-- where a window opens, the run at its place has its best pieces
+one-best : (system : List Row) (editor : Editor) (changes : List Call) (commit : List ℕ) (note : Note) (place : ℕ) (replies : List Reply)
+    (run : PlacedRun) (reply : Reply) → list_all is_row system ≡ true → HasSingles system editor.buffer.cells → IsSteady editor
+    → has_sound editor.buffer.cells place ≡ true
+    → AreAnswers (record { editor = editor; changes = changes; commit = commit; note = note; opens = Some place }) replies
+    → option_to_list (run_at editor.buffer.cells place) ≡ run ∷ [] → drop (length changes) replies ≡ reply ∷ []
+    → AreBestIn system editor.buffer run (hits_in reply)
+    (finish system (record { editor = editor; changes = changes; commit = commit; note = note; opens = Some place }) replies).editor.pieces
+unfolding finish phrased
+one-best system editor changes commit note place replies run reply e singles h sound a runs one =
+    let buffer = editor.buffer in
+    let cells = buffer.cells in
+    let found = HasRun-sound cells place sound in
+    let is : found.run ≡ run = same_Some found.run run (ap (λ rs. slice_get rs 0) (sym (ap option_to_list found.is) ∙ runs)) in
+    let parts : runs_of cells ≡ found.before ++ run ∷ found.behind = found.parts ∙ ap (λ r. found.before ++ r ∷ found.behind) is in
+    let b = IsBuffer-from buffer h.buffer in
+    let in_run = IsRunIn-split system buffer found.before run found.behind singles parts in
+    let answer = a.found 0 run reply (ap (λ rs. slice_get rs 0) runs) (ap (λ rs. slice_get rs 0) one) in
+    let own = found-covers system buffer found.before run found.behind reply e b in_run answer in
+    let can = subst (λ (r : Reply). CanSegment (combined_hits system run.codes (hits_in r)) (choices_in run buffer.choices) (length run.codes)) (sym answer.is)
+    (CanSegment-run system answer.rows buffer run e answer.are_rows b in_run.of) in
+    own-best system buffer run reply editor.pieces
+    (finish system (record { editor = editor; changes = changes; commit = commit; note = note; opens = Some place }) replies).editor.pieces h.pieces own can
+    (ap₂ (λ rs ls. phrased system buffer editor.pieces rs ls) runs one)
+
 -- where a window opens
 phrased-one : (system : List Row) (editor : Editor) (changes : List Call) (commit : List ℕ) (note : Note) (place : ℕ) (replies : List Reply)
     → list_all is_row system ≡ true → HasSingles system editor.buffer.cells → IsSteady editor
@@ -220,13 +245,11 @@ phrased-one system editor changes commit note place replies e singles h sound co
     let at : slice_get (runs_of cells) j ≡ Some run = ap (λ rs. slice_get rs j) found.parts ∙ at-middle found.before run found.behind in
     let apart = ap (list_all (λ p. not (suc p == run.start))) (same-from_covers cells editor.pieces covered ∙ (sym (places-runs_of cells) ∙ ap (flat_map run_places) found.parts))
     ∙ apart-start found.before run found.behind in_run.among in
-    let can = subst (λ (r : Reply). CanSegment (combined_hits system run.codes (hits_in r)) (choices_in run buffer.choices) (length run.codes)) (sym answer.is)
-    (CanSegment-run system answer.rows buffer run e answer.are_rows b in_run.of) in
     let asked_best : IsBestFor system after run = record {
       rows = answer.rows;
       are_rows = answer.are_rows;
       best = subst (λ (r : Reply). AreBestIn system buffer run (hits_in r) after.pieces) answer.is
-          (own-best system buffer run reply editor.pieces after.pieces h.pieces own can pieces);
+          (one-best system editor changes commit note place replies run reply e singles h sound a runs one.is);
     } in
     let other_best : (k : ℕ) (other : PlacedRun) → slice_get (runs_of cells) k ≡ Some other
     → filter (begins_in other) (renewed run best editor.pieces) ≡ filter (begins_in other) editor.pieces → IsBestFor system after other =
@@ -277,6 +300,40 @@ phrased-all system pending replies e singles p none a =
                 (shown-best system pending replies k run reply.reply e singles p none a f reply.is);
           };
     }
+
+-- so has each run that is asked
+asked-by-opens : (system : List Row) (editor : Editor) (changes : List Call) (commit : List ℕ) (note : Note) (opens : Option ℕ) (replies : List Reply)
+    (k : ℕ) (run : PlacedRun) (reply : Reply) → list_all is_row system ≡ true → HasSingles system editor.buffer.cells
+    → is_pending (record { editor = editor; changes = changes; commit = commit; note = note; opens = opens }) ≡ true
+    → AreAnswers (record { editor = editor; changes = changes; commit = commit; note = note; opens = opens }) replies
+    → slice_get (runs_asked (record { editor = editor; changes = changes; commit = commit; note = note; opens = opens })) k ≡ Some run
+    → slice_get (drop (length changes) replies) k ≡ Some reply
+    → AreBestIn system editor.buffer run (hits_in reply)
+    (finish system (record { editor = editor; changes = changes; commit = commit; note = note; opens = opens }) replies).editor.pieces
+unfolding is_pending
+asked-by-opens system editor changes commit note None replies k run reply e singles p a f g =
+    shown-best system (record { editor = editor; changes = changes; commit = commit; note = note; opens = None }) replies k run reply e singles p refl a f g
+asked-by-opens system editor changes commit note (Some place) replies k run reply e singles p a f g =
+    let parts = and_parts (is_steady editor) _ p in
+    let asks = and_parts (has_sound editor.buffer.cells place) (covers editor.buffer.cells editor.pieces) parts.1 in
+    let asked = option_to_list (run_at editor.buffer.cells place) in
+    let looked = drop (length changes) replies in
+    let found = HasRun-sound editor.buffer.cells place asks.0 in
+    let runs : asked ≡ found.run ∷ [] = ap option_to_list found.is in
+    let one = IsOne-length looked (looked-length changes asked replies a.one_each ∙ ap length runs) in
+    let within : k < length asked = slice_get_within asked k run f in
+    let count : length asked ≡ 1 = ap length runs in
+    let first : k ≡ 0 = omega arith in
+    let run_is : found.run ≡ run = same_Some found.run run (sym (ap₂ (λ rs i. slice_get rs i) runs first) ∙ f) in
+    let reply_is : one.reply ≡ reply = same_Some one.reply reply (sym (ap₂ (λ rs i. slice_get rs i) one.is first) ∙ g) in
+    one-best system editor changes commit note place replies run reply e singles (IsSteady-from editor parts.0) asks.0 a
+    (runs ∙ ap (λ r. r ∷ []) run_is) (one.is ∙ ap (λ r. r ∷ []) reply_is)
+
+pub asked-best : (system : List Row) (pending : Pending) (replies : List Reply) (k : ℕ) (run : PlacedRun) (reply : Reply) → list_all is_row system ≡ true
+    → HasSingles system pending.editor.buffer.cells → is_pending pending ≡ true → AreAnswers pending replies
+    → slice_get (runs_asked pending) k ≡ Some run → slice_get (drop (length pending.changes) replies) k ≡ Some reply
+    → AreBestIn system pending.editor.buffer run (hits_in reply) (finish system pending replies).editor.pieces
+asked-best system pending = asked-by-opens system pending.editor pending.changes pending.commit pending.note pending.opens
 
 by-opens : (system : List Row) (before editor : Editor) (changes : List Call) (commit : List ℕ) (note : Note) (opens : Option ℕ) (replies : List Reply)
     → list_all is_row system ≡ true → HasSingles system editor.buffer.cells

@@ -25,6 +25,7 @@ pub mod Answered
 pub mod Outcomes
 pub mod Bells
 pub mod Moves
+pub mod RefusedKeys
 pub mod Committing
 pub mod Phrasing
 pub mod Toggled

@@ -189,6 +189,8 @@ pub fn known_scores()
     ensures long_run { gain (10 ∷ 10 ∷ 10 ∷ 9 ∷ []) (0 ∷ 0 ∷ 0 ∷ 0 ∷ []) ≡ 96_700 + loss (10 ∷ 10 ∷ 10 ∷ 9 ∷ []) }
     ensures one_phrase { gain (2 ∷ []) (9318 ∷ []) ≡ 23_318 + loss (2 ∷ []) }
     ensures two_characters { gain (1 ∷ (1 ∷ [])) (200 ∷ (9000 ∷ [])) ≡ 8_017 + loss (1 ∷ (1 ∷ [])) }
+    ensures counts_nothing { gain (1 ∷ []) (511 ∷ []) ≡ 7_000 + loss (1 ∷ []) }
+    ensures counts_one { gain (1 ∷ []) (512 ∷ []) ≡ 7_001 + loss (1 ∷ []) }
 {}
 
 /// Known best segmentations: the greater score, and where scores tie the one that begins with the longer piece.

@@ -2,12 +2,13 @@
 
 ghost use Rattle.std.specs.Prelude.{◌≡◌, ◌≢◌, ℕ, ◌+◌, ◌-◌, ◌<◌, [], List, IsFalse, IsTrue, length, Some, None};
 ghost use Rattle.chew_spec_syllable.specs.Row.{Row};
-ghost use Rattle.chew_spec_layout.specs.Layout.{holds};
+ghost use Rattle.chew_spec_layout.specs.Step.{Refused, NotMine};
+ghost use Rattle.chew_spec_layout.specs.Layout.{feed, holds};
 ghost use Rattle.chew_spec_dictionary.specs.Call.{Reply};
 ghost use Rattle.chew_spec_preedit.specs.Edit.{break_toggled, can_break};
 ghost use Rattle.chew_spec_preedit.specs.Buffer.{Buffer, is_buffer};
 ghost use Rattle.chew_spec_preedit.specs.Window.{Window};
-ghost use Rattle.chew_spec_text.specs.KeyStroke.{KeyStroke, Left, Right, Home, End, Tab};
+ghost use Rattle.chew_spec_text.specs.KeyStroke.{KeyStroke, Char, Left, Right, Home, End, Tab};
 ghost use Rattle.chew_spec_text.specs.Line.{Line, Bell};
 ghost use Rattle.chew_spec_editor.specs.Editor.{Editor};
 ghost use Rattle.chew_spec_editor.specs.Finish.{finish};
@@ -27,6 +28,14 @@ pub fn bells_change_nothing()
         → press system editor key ≡ Done after line → line.note ≡ Bell → line.commit ≡ [] }
     ensures asked { (system : List Row) (editor : Editor) (key : KeyStroke) (pending : Pending) (replies : List Reply)
         → press system editor key ≡ Ask pending → (finish system pending replies).line.note ≢ Bell }
+{}
+
+/// A key that the layout refuses rings and changes nothing, and so does one that isn't the layout's while something is held.
+pub fn refused_keys_ring()
+    ensures refused { (system : List Row) (editor : Editor) (byte : ℕ) → editor.window ≡ None
+        → (feed editor.layout byte).step ≡ Refused → press system editor (Char byte) ≡ bell editor }
+    ensures not_mine { (system : List Row) (editor : Editor) (byte : ℕ) → editor.window ≡ None → IsTrue (holds editor.layout)
+        → (feed editor.layout byte).step ≡ NotMine → press system editor (Char byte) ≡ bell editor }
 {}
 
 /// A key that asks has a call.

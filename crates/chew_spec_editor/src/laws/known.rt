@@ -18,6 +18,12 @@ pub fn known_unknown_syllable()
         ≡ bytes_of "\t0\tㄅ\t\t\t\n" ∷ bytes_of "\t0\tㄅㄚ\t\t\t\n" ∷ bytes_of "\t0\t\t\t\tbell\n" ∷ [] }
 {}
 
+/// A tone while nothing is held is a bell, and the buffer stays.
+pub fn known_refused_key()
+    ensures empty { last_lines 1 standard_settings (codes "4") ≡ bytes_of "\t0\t\t\t\tbell\n" ∷ [] }
+    ensures behind { last_lines 1 standard_settings (codes "hk44") ≡ bytes_of "策\t2\t\t\t\tbell\n" ∷ [] }
+{}
+
 /// Backspace erases in the layout, then the cell before the cursor, and rings where there is none.
 pub fn known_backspace()
     ensures cell { last_lines 2 standard_settings (codes "hk4<B><B>") ≡ bytes_of "\t0\t\t\t\t\n" ∷ bytes_of "\t0\t\t\t\tbell\n" ∷ [] }

@@ -1,5 +1,5 @@
-use Rattle.chew_spec_editor.proofs.RunPieces.{shown-best}
+use Rattle.chew_spec_editor.proofs.BestKept.{asked-best}
 use Rattle.chew_spec_editor.proofs.laws.best.shown_pieces_are_unbeaten.Goals as goal
 
 pub returns : goal.returns
-returns c = shown-best
+returns c = asked-best

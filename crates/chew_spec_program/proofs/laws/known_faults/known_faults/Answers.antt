@@ -12,17 +12,19 @@ use Rattle.chew_spec_slots.specs.Reading.{saved_in}
 use Rattle.chew_spec_slots.specs.Recovery.{recovered}
 use Rattle.chew_spec_program.specs.Command.{command_of}
 use Rattle.chew_spec_program.specs.Opening.{opening}
-use Rattle.std.specs.Prelude.{codes}
-use Rattle.std.proofs.Common.{[], ◌∷◌, ◌++◌, None, Some, Ok, Err, false, inl, length, lit≤, refl, sym, true≢false}
+use Rattle.std.specs.Prelude.{◌≡◌, ◌⊎◌, ℕ, codes}
+use Rattle.std.proofs.Common.{[], ◌∷◌, ◌++◌, None, Some, Ok, Err, false, inl, length, lit≤, refl, sym, true≢false, arith, ⊎_elim}
 use Rattle.chew_spec_text.specs.Line.{with_line_feed}
 use Rattle.chew_spec_rounds.specs.Known.{disk_with}
 use Rattle.chew_spec_rounds.specs.Round.{DiskFault, SeqSpent}
 use Rattle.chew_spec_rounds.specs.Seq.{last_seq}
 use Rattle.chew_spec_program.specs.Refusal.{SlotDamaged, SourceFailed}
-use Rattle.chew_spec_program.specs.Sample.{empty_slots}
-use Rattle.chew_spec_program.specs.SampleFaults.{cut_slot, frozen_journal, last_slot}
+use Rattle.chew_spec_program.specs.Run.{Outside}
+use Rattle.chew_spec_program.specs.Sample.{empty_slots, run_words}
+use Rattle.chew_spec_program.specs.SampleFaults.{cut_disk, cut_slot, frozen_journal, last_slot, over_disk, refused_end}
 use Rattle.chew_spec_program.specs.SampleRun.{five_calls, five_inputs, five_text, keys_text, without_round}
 use Rattle.chew_spec_program.proofs.KnownFaults.{cut-idle, failed-kept, failed-session, session_with, spent-kept, spent-session, taught_inputs, untouched}
+use Rattle.chew_spec_program.proofs.ToldRuns.{run-refused}
 use Rattle.chew_spec_program.proofs.laws.known_faults.known_faults.Goals as goal
 
 pub returns-clause-source : goal.returns-clause-source
@@ -80,6 +82,20 @@ returns-clause-slot c = record {
     record { unwritten = λ _. cut-idle; calm = λ _. refl },
   );
 }
+
+-- a status is one alone
+other-status : (status : ℕ) → status ≡ 5 → (status ≡ 10) ⊎ (status ≡ 6) → ⊥
+other-status status is either = ⊎_elim (λ (ten : status ≡ 10). omega arith) (λ (six : status ≡ 6). omega arith) either
+
+-- where the sources and the disk are told, the status is 10 or that of the slot
+pub returns-clause-wrong_status : goal.returns-clause-wrong_status
+unfolding command_of opening dictionary_rows is_phrase is_utf8 chars syllable_reading script_of encode_utf8 typing recovered saved_in image_reading node_at row_at
+returns-clause-wrong_status c = λ run.
+    let outside : Outside = over_disk cut_disk (with_line_feed (codes "slot 0 damaged 60")) in
+    other-status 5 refl
+    (run-refused run_words outside (refused_end 5) [] five_text keys_text (SlotDamaged 0 60) run (record { told = refl; calm = λ rose. omega arith })
+    (record { told = refl; calm = λ rose. omega arith }) (record { told = refl; calm = λ rose. omega arith })
+    (record { told = refl; calm = λ rose. omega arith }) refl)
 
 pub returns-clause-disk : goal.returns-clause-disk
 unfolding command_of opening dictionary_rows is_phrase is_utf8 syllable_reading script_of encode_utf8 typing recovered
