@@ -2,7 +2,7 @@
 
 ghost use Rattle.std.specs.Prelude.{◌≡◌, IsTrue, IfOk, OnOk, false};
 ghost use Rattle.chew_spec_dictionary.specs.Call.{is_proper};
-ghost use Rattle.chew_spec_dictionary.specs.History.{after, is_keepers, start_of};
+ghost use Rattle.chew_spec_dictionary.specs.History.{after, answer, is_keepers, start_of};
 ghost use Rattle.chew_plain.specs.Call.{call_of, reply_of};
 
 use crate::layers::Layers;
@@ -19,6 +19,8 @@ pub fn replies(
     requires same { plain.old ≡ after (start_of layers.old.start) layers.old.journal }
     requires proper { IsTrue (is_proper (call_of call.now)) }
     requires user { is_keepers (call_of call.now) ≡ false }
+    ensures reply { IfOk result (λ both. reply_of both.0 ≡ (answer plain.old (call_of call.now)).reply) }
+    ensures moved { OnOk result (plain.new ≡ (answer plain.old (call_of call.now)).point) }
     ensures alike { IfOk result (λ both. reply_of both.0 ≡ reply_of both.1) }
     ensures same { OnOk result (plain.new ≡ after (start_of layers.new.start) layers.new.journal) }
 {
