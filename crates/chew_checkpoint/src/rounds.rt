@@ -18,7 +18,7 @@ ghost use Rattle.chew_checkpoint.specs.declared.fault.WriteFault.TheVariants as 
 use crate::checkpointer::Checkpointer;
 use crate::fault::WriteFault;
 use crate::round::Round;
-use chew_layers::Snapshot;
+use chew_layers::{KEEPER, Snapshot};
 use chew_merge::merge;
 use chew_outside::{Disk, Gate};
 use chew_shared::{KeeperPass, Shared};
@@ -26,9 +26,6 @@ use chew_syllable::NoMemory;
 use chew_trie_read::Trie;
 use std::alloc::Global;
 use std::sync::{Arc, Wait};
-
-/// The keeper's number at a gate.
-const KEEPER: u32 = 0;
 
 /// The map of a snapshot.
 fn merged(alloc: Global, snapshot: &Snapshot) -> Result<Arc<Trie>, NoMemory>

@@ -5,7 +5,7 @@ ghost use Rattle.chew_preedit.specs.CellItem.{cell_of};
 
 use chew_phrasing::Piece;
 use chew_preedit::CellItem;
-use chew_syllable::NoMemory;
+use chew_syllable::{NoMemory, split_character};
 use std::alloc::Global;
 
 /// The character of each cell, given the pieces of all runs.
@@ -88,18 +88,6 @@ fn character_of(text: &str, count: usize) -> Option<char>
                 character_of(rest, count - 1)
             }
         }
-        None => None,
-    }
-}
-
-/// The first character of a text, and what follows it; `None` where the text is empty.
-fn split_character(text: &str) -> Option<(char, &str)>
-    ensures some { IfSome result (λ split. chars text.now ≡ split.0 ∷ chars split.1.now) }
-    ensures none { IfNone result (chars text.now ≡ []) }
-{
-    let mut characters = text.chars();
-    match characters.next() {
-        Some(first) => Some((first, characters.as_str())),
         None => None,
     }
 }

@@ -11,11 +11,8 @@ use crate::outcome::Outcome;
 use crate::settling::{ring, settle};
 use crate::state::{State, Typing};
 use chew_script::{Note, Text};
-use chew_syllable::NoMemory;
+use chew_syllable::{BACKSPACE, NoMemory};
 use std::alloc::Global;
-
-/// Backspace as a layout knows it.
-const BACKSPACE: u8 = 8;
 
 /// Looks up all runs of what is typed then, and changes nothing in the dictionary.
 pub(crate) fn edit(

@@ -23,14 +23,11 @@ use crate::state::{State, Typing};
 use arrayvec::ArrayVec;
 use chew_candidates::Window;
 use chew_plain::{Lexicon, Reply};
-use chew_preedit::{PlacedRun, Preedit};
+use chew_preedit::{PlacedRun, Preedit, RUNS_LIMIT};
 use chew_script::Line;
 use chew_syllable::NoMemory;
 use std::alloc::Global;
 use std::cmp::min;
-
-/// The most runs of a buffer.
-const RUN_LIMIT: usize = 20;
 
 /// What the replies to a key's calls, one a call, make of the editor, and the line that shows it then. Where memory is
 /// refused, the editor is gone.
@@ -87,7 +84,7 @@ fn finished<L: Lexicon>(
 }
 
 /// The runs that are looked up: where a window opens the run at its place, else all.
-fn runs_asked(preedit: &Preedit, opens: Option<u8>) -> ArrayVec<PlacedRun, RUN_LIMIT>
+fn runs_asked(preedit: &Preedit, opens: Option<u8>) -> ArrayVec<PlacedRun, RUNS_LIMIT>
     ensures { result.items ≡ option_map_or (λ place. option_to_list (run_at preedit.now.cells place)) opens (runs_of preedit.now.cells) }
 {
     match opens {
@@ -97,7 +94,7 @@ fn runs_asked(preedit: &Preedit, opens: Option<u8>) -> ArrayVec<PlacedRun, RUN_L
 }
 
 /// A run by itself, where there is one.
-fn one_run(run: Option<PlacedRun>) -> ArrayVec<PlacedRun, RUN_LIMIT>
+fn one_run(run: Option<PlacedRun>) -> ArrayVec<PlacedRun, RUNS_LIMIT>
     ensures { result.items ≡ option_to_list run }
 {
     let mut runs = ArrayVec::new();

@@ -17,11 +17,8 @@ use crate::stretch::Stretch;
 use chew_phrasing::Piece;
 use chew_plain::{Call, Lexicon};
 use chew_preedit::{CellItem, Preedit};
-use chew_syllable::{Key, NoMemory, Phrase};
+use chew_syllable::{KEY_LIMIT, Key, NoMemory, Phrase};
 use std::alloc::Global;
-
-/// The most syllables that are learnt as one phrase.
-const PART_LIMIT: usize = 11;
 
 /// What Enter learns of the shown pieces, from left to right: each piece of two or more syllables by itself, and the
 /// longest stretches of single syllables that no break parts, in parts of 11 from the left.
@@ -108,7 +105,7 @@ fn push_parts<L: Lexicon>(
     ensures { OnOk result (map call_of calls.new.items
         ≡ map call_of calls.old.items ++ learns_in (L.rows system.now) (map cell_of cells.now) shown.now) }
 {
-    let parts = (cells.len() + (PART_LIMIT - 1)) / PART_LIMIT;
+    let parts = (cells.len() + (KEY_LIMIT - 1)) / KEY_LIMIT;
     for n in 0..parts {
         push_part(calls, system, part(cells, n), part(shown, n))?;
     }
@@ -138,9 +135,9 @@ fn part<T>(items: &[T], n: usize) -> &[T]
     ensures value { result.now ≡ eleven n items.now }
     ensures few { length result.now ≤ 11 }
 {
-    let rest = &items[PART_LIMIT * n..];
-    if rest.len() > PART_LIMIT {
-        &rest[..PART_LIMIT]
+    let rest = &items[KEY_LIMIT * n..];
+    if rest.len() > KEY_LIMIT {
+        &rest[..KEY_LIMIT]
     } else {
         rest
     }

@@ -18,7 +18,7 @@ use crate::state::State;
 use chew_candidates::Window;
 use chew_phrasing::Choice;
 use chew_script::KeyStroke;
-use chew_syllable::NoMemory;
+use chew_syllable::{NoMemory, place_of};
 use std::alloc::Global;
 
 /// What a key does while this window is open.
@@ -109,18 +109,8 @@ fn pick_by(window: &Window, selection: &[u8], byte: u8) -> Option<Choice>
     ensures value { result ≡ option_and_then (picked window.now) (position (λ key. key == byte) selection.now) }
     ensures freq { IfSome result (λ choice. choice.freq ≤ 99_999_999) }
 {
-    match place_of(selection, byte) {
-        Some(place) => window.pick(place as u8),
-        None => None,
-    }
-}
-
-/// The place of a key among the selection keys, counted from 0.
-fn place_of(selection: &[u8], byte: u8) -> Option<usize>
-    ensures value { result ≡ position (λ key. key == byte) selection.now }
-    ensures within { IfSome result (λ place. place < length selection.now) }
-{
-    selection.iter().position(|key| *key == byte)
+    let place = place_of(selection, byte)?;
+    window.pick(place as u8)
 }
 
 /// The cells of the choice show it from now on.

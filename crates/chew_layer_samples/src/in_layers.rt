@@ -15,7 +15,7 @@ ghost use Rattle.chew_layers.specs.Need.{meaning_of};
 ghost use Rattle.chew_layer_samples.specs.Waiting.{waiting_of};
 
 use crate::maps::{empty_map, five_map};
-use chew_layers::{Layers, Need, Snapshot};
+use chew_layers::{KEEPER, Layers, Need, Snapshot};
 use chew_merge::merge;
 use chew_plain::{Call, Reply};
 use chew_syllable::NoMemory;
@@ -23,9 +23,6 @@ use chew_trie_read::Trie;
 use std::alloc::Global;
 use std::marker::Model;
 use std::sync::Arc;
-
-/// The number of who freezes and installs.
-const KEEPER: u32 = 0;
 
 /// The number of who makes all other calls.
 const USER: u32 = 1;

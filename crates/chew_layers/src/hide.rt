@@ -8,9 +8,9 @@ ghost use Rattle.chew_layers.specs.OneMore.{IsHide, IsOneMore};
 
 use crate::change::Change;
 use crate::layers::Layers;
-use crate::seen::{HIDDEN_TIME, is_hidden};
+use crate::seen::is_hidden;
 use chew_buffer::Mark;
-use chew_plain::{Entry, Reply};
+use chew_plain::{Entry, HIDDEN_TIME, Reply};
 use chew_syllable::{Key, NoMemory, Phrase};
 
 impl Layers {

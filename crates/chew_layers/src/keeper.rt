@@ -18,6 +18,9 @@ use chew_trie_read::Trie;
 use std::mem::replace;
 use std::sync::Arc;
 
+/// The keeper's number, under which freezes and installs are entered; contexts have numbers from 1 on.
+pub const KEEPER: u32 = 0;
+
 impl Layers {
     /// Has the fresh marks wait for a new base, or, where a layer waits already, has it go on waiting; and gives what the new base
     /// is made of. Later calls leave room for the entry of its install. It copies no marks, and costs the same for any number.

@@ -12,12 +12,9 @@ use crate::held::Said;
 use crate::layers::Layers;
 use crate::seen::is_hidden;
 use chew_buffer::Mark;
-use chew_plain::{Entry, Reply, next_freq};
+use chew_plain::{Entry, LATEST_LEARN, Reply, next_freq};
 use chew_syllable::{Key, NoMemory, Phrase};
 use std::cmp::{max, min};
-
-/// The latest time of a learn.
-const LATEST_LEARN: u64 = u64::MAX - 1;
 
 impl Layers {
     /// Learns a pair.

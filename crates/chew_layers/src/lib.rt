@@ -16,6 +16,7 @@ mod need;
 mod seen;
 mod snapshot;
 
+pub use keeper::KEEPER;
 pub use layers::Layers;
 pub use need::Need;
 pub use snapshot::Snapshot;

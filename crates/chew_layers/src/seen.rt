@@ -10,22 +10,16 @@ ghost use Rattle.chew_layers.specs.Visible.{base_rows, marked_rows, visible_rows
 
 use crate::held::Held;
 use chew_buffer::{Buffer, Mark, MarkRef};
-use chew_plain::{Hit, Lexicon, RowRef};
+use chew_plain::{HIDDEN_TIME, Hit, Lexicon, RowRef, can_hide};
 use chew_syllable::{Key, NoMemory, Phrase};
 use chew_trie_read::Trie;
 use std::alloc::Global;
-
-/// The time of a hidden pair.
-pub(crate) const HIDDEN_TIME: u64 = u64::MAX;
-
-/// The least syllables of a key whose phrases can be hidden.
-const LEAST_SYLLABLES: usize = 2;
 
 /// Whether a pair of the key that has this time is hidden.
 pub(crate) fn is_hidden(key: &Key, time: u64) -> bool
     ensures { (phrase : List ℕ) (freq : ℕ) → result ≡ is_hidden (record { key = key.now; phrase = phrase; freq = freq; time = time }) }
 {
-    key.len() >= LEAST_SYLLABLES && time == HIDDEN_TIME
+    can_hide(key.list()) && time == HIDDEN_TIME
 }
 
 /// The rows of a key that no newer layer hides, as hits of the interval that begins at `start`, in no order.

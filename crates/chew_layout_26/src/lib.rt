@@ -2,9 +2,9 @@
 #![tactic(auto)]
 
 mod columns;
+mod letter_reading;
 mod numbers;
 mod raw_26;
-mod reading;
 mod taken;
 mod turn;
 

@@ -5,7 +5,7 @@ ghost use Rattle.chew_syllable.specs.Step.{step_of};
 ghost use Rattle.chew_layout_26.specs.Kinds.{kind_of};
 
 use crate::columns::Letters;
-use crate::reading::reading_of;
+use crate::letter_reading::reading_of;
 use crate::taken::fits_with;
 use arrayvec::ArrayVec;
 use chew_syllable::{BACKSPACE, Parts, SPACE, Step, Syllable, has_key, number_of};

@@ -5,21 +5,21 @@ ghost use Rattle.chew_spec_layers.specs.Overlay.{overlay};
 
 use crate::overlaid::Overlaid;
 use chew_buffer::Buffer;
-use chew_syllable::{KeyRow, NoMemory};
+use chew_syllable::{KeyRow, NoMemory, USER_ROWS_LIMIT};
 use chew_trie_read::Trie;
 use chew_trie_write::write_image;
 use std::alloc::Global;
 use std::cmp::min;
-
-/// The most rows of a user's dictionary.
-const ROW_LIMIT: usize = 200_000;
 
 /// Room for the rows of a map under a layer of marks.
 fn room_for(base: &Trie, layer: &Buffer) -> usize
     requires few { length (overlay base.now layer.now) ≤ 200_000 }
     ensures { length (overlay base.now layer.now) ≤ result }
 {
-    min(base.total() as usize + layer.len(), ROW_LIMIT)
+    min(
+        base.total() as usize + layer.len(),
+        USER_ROWS_LIMIT as usize,
+    )
 }
 
 /// The rows of a map under a layer of marks. Room for them is made once.

@@ -1,5 +1,5 @@
 -- The events of a slot in memory as the definitions see them.
-use Rattle.std.specs.Prelude.{ℕ, List, [], ◌∷◌, map, reverse, Option, Some, None}
+use Rattle.std.specs.Prelude.{ℕ, List, map, reverse, Option, Some, None}
 use Rattle.std.specs.declared.vec.Vec.{Vec}
 use Rattle.chew_spec_disk.specs.Memory as spec
 use Rattle.chew_outside.specs.declared.mem_slot.Event.{Event}

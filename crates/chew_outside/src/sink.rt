@@ -29,10 +29,7 @@ pub fn write_all<O: Sink>(sink: &mut O, bytes: &[u8]) -> Result<(), Failed>
 {
     let mut done = 0;
     'writing: while done < bytes.len() {
-        match sink.write(&bytes[done..]) {
-            Ok(count) => done += count,
-            Err(Failed) => return Err(Failed),
-        }
+        done += sink.write(&bytes[done..])?;
     }
     Ok(())
 }

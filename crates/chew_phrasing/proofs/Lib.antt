@@ -16,7 +16,6 @@ pub mod Offers
 pub mod Slots
 pub mod Stands
 pub mod SystemRows
-pub mod Texts
 pub mod Topping
 pub mod Totals
 pub mod Walking

@@ -19,6 +19,7 @@ use Rattle.chew_plain.proofs.Together.{its_row, its_row_key, its_row_valid}
 -- a row of the key
 pub record IsRowOf (rows : List Row) (key : List ℕ) (i : ℕ) (row : Row) : Type 0 where
   pub inside : i < length (rows_of rows key)
+  pub there : slice_get (rows_of rows key) i ≡ Some row
   pub is : row ≡ get_or (rows_of rows key) i row
   pub phrase : is_phrase row.phrase ≡ true
   pub long : length (chars row.phrase) ≡ length key
@@ -30,12 +31,14 @@ row_of_key rows key start end i row together within each below there =
     omega (arith, ap (λ l. length l) together, length-take (end - start) (drop start rows), length-drop start rows) in
     let valid = its_row_valid rows key start end i row together inside there each in
     let same = its_row_key rows key start end i row together inside there in
+    let found = its_row rows key start end i row together inside there in
     let parts = and_parts (is_pair row.key row.phrase) (nat_le row.freq greatest_freq) valid in
     let pair = and_parts (is_key row.key) (is_phrase row.phrase && (length (chars row.phrase) == length row.key)) parts.0 in
     let both = and_parts (is_phrase row.phrase) (length (chars row.phrase) == length row.key) pair.1 in
     record {
       inside = inside;
-      is = sym (get_or_from_slice_get (rows_of rows key) i row row (its_row rows key start end i row together inside there));
+      there = found;
+      is = sym (get_or_from_slice_get (rows_of rows key) i row row found);
       phrase = both.0;
       long = eqb-true (length (chars row.phrase)) (length row.key) both.1 ∙ ap (λ k. length k) same;
       freq = leb-true row.freq greatest_freq parts.1;

@@ -1,16 +1,6 @@
 ghost use Rattle.std.specs.Prelude.{◌≡◌, [], ◌∷◌, IfSome, IfNone, length, take, drop, chars, bytes_eq};
 
-/// The first character of a text, and what follows it; `None` where the text is empty.
-fn split_character(text: &str) -> Option<(char, &str)>
-    ensures some { IfSome result (λ split. chars text.now ≡ split.0 ∷ chars split.1.now) }
-    ensures none { IfNone result (chars text.now ≡ []) }
-{
-    let mut characters = text.chars();
-    match characters.next() {
-        Some(first) => Some((first, characters.as_str())),
-        None => None,
-    }
-}
+use chew_syllable::split_character;
 
 /// What follows so many characters of a text, or nothing where it has fewer.
 pub(crate) fn after_characters(text: &str, count: usize) -> &str

@@ -8,12 +8,9 @@ ghost use Rattle.chew_phrasing.specs.Combine.{combined_at, combined_from};
 
 use crate::interval::is_hit_at;
 use chew_plain::{Hit, Hits, Interval, Lexicon, sort_hits};
-use chew_syllable::{NoMemory, Phrase, Run, Syllable};
+use chew_syllable::{KEY_LIMIT, NoMemory, Phrase, Run, Syllable};
 use std::alloc::Global;
 use std::cmp::min;
-
-/// The most syllables of an interval.
-const INTERVAL_LIMIT: usize = 11;
 
 /// The combined rows of every interval of the run, by their starts, then their lengths, as they are shown: the
 /// user's rows that aren't hidden, and those of the system whose phrase no row of the user has. `user` is what a look
@@ -62,7 +59,7 @@ fn push_from<L: Lexicon>(
     requires inside { start < length run.now }
     ensures { OnOk result (hits.new.items ≡ hits.old.items ++ combined_from (L.rows system.now) run.now user.now start) }
 {
-    let limit = min(INTERVAL_LIMIT, run.len() - start);
+    let limit = min(KEY_LIMIT, run.len() - start);
     for len in 1..limit + 1 {
         push_at(hits, system, run, user, Interval { start, len })?;
     }
@@ -154,9 +151,11 @@ fn free_hits<L: Lexicon>(
     requires few { at.len ≤ 11 }
     ensures { IfOk result (λ free. free.items ≡ map (shown_hit at) (filter (is_free_of own.now) (rows_of (L.rows system.now) key.now))) }
 {
+    let places = system.places(key);
+    let (start, end) = (places.start, places.end);
     let mut free = Vec::new(alloc);
-    for i in 0..system.count(key) {
-        let row = system.row(key, i);
+    for i in 0..end - start {
+        let row = system.row_at(start + i);
         if !is_taken(row.phrase, own) {
             free.push(as_hit(row.phrase, row.freq, at))?;
         }

@@ -4,16 +4,14 @@ ghost use Rattle.std.specs.Ordering.{nat_cmp};
 ghost use Rattle.chew_spec_phrasing.specs.Score.{difference};
 ghost use Rattle.chew_phrasing.specs.Counts.{no_counts, one_more, sum_over};
 
+use chew_syllable::KEY_LIMIT;
 use std::cmp::Ordering;
 use std::marker::Model;
-
-/// The most syllables of a piece.
-pub(crate) const LENGTH_LIMIT: usize = 11;
 
 /// How many pieces of a segmentation have each length: of 1 syllable first.
 #[derive(Clone, Copy, Drop)]
 pub(crate) struct Counts {
-    of: [u8; LENGTH_LIMIT],
+    of: [u8; KEY_LIMIT],
 }
 
 impl Model for Counts {
@@ -33,9 +31,7 @@ impl Counts {
     pub(crate) fn none() -> Counts
         ensures { result ≡ no_counts }
     {
-        Counts {
-            of: [0; LENGTH_LIMIT],
-        }
+        Counts { of: [0; KEY_LIMIT] }
     }
 
     /// Those with one piece more of this length.

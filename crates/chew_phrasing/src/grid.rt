@@ -5,11 +5,10 @@ ghost use Rattle.chew_spec_phrasing.specs.Usable as spec;
 ghost use Rattle.chew_spec_phrasing.specs.Usable.{is_unbroken, keeps_choices, phrase_len};
 ghost use Rattle.chew_phrasing.specs.Grid.{IsGrid, IsInside, in_slot, piece_in, put_in, slot_of};
 
-use crate::counts::LENGTH_LIMIT;
 use crate::piece::{Choice, Piece, piece_of_choice, piece_of_hit};
 use crate::rules::{is_unbroken, keeps_choices};
 use chew_plain::{Hit, Interval};
-use chew_syllable::NoMemory;
+use chew_syllable::{KEY_LIMIT, NoMemory};
 use std::alloc::Global;
 use std::marker::Model;
 
@@ -77,7 +76,7 @@ impl Grid {
         ensures cells { IfOk result (λ grid. grid.cells ≡ cells) }
         ensures grid { IfOk result (λ grid. (breaks : List ℕ) → IsGrid (spec.piece_at [] breaks []) grid) }
     {
-        let count = cells * LENGTH_LIMIT;
+        let count = cells * KEY_LIMIT;
         let mut slots = Vec::with_capacity(alloc, count)?;
         for _ in 0..count {
             slots.push(None)?;
@@ -180,7 +179,7 @@ fn slot_of(at: Interval) -> usize
     requires some { 1 ≤ at.len }
     ensures { result ≡ slot_of at }
 {
-    at.start * LENGTH_LIMIT + (at.len - 1)
+    at.start * KEY_LIMIT + (at.len - 1)
 }
 
 /// Whether the breaks and the choices let a row of the interval be a piece.

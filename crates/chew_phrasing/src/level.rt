@@ -2,13 +2,12 @@ ghost use Rattle.std.specs.Prelude.{◌≡◌, ◌<◌, ◌≤◌, ◌-◌, ◌�
 ghost use Rattle.chew_phrasing.specs.Grid.{piece_in};
 ghost use Rattle.chew_phrasing.specs.Table.{GivesPieces, IsLevel, IsPart, IsTable, end_of_run};
 
-use crate::counts::LENGTH_LIMIT;
 use crate::entry::{Entry, all_behind};
 use crate::grid::Grid;
 use crate::merge::merge;
 use crate::scoring::weight_of;
 use chew_plain::Interval;
-use chew_syllable::NoMemory;
+use chew_syllable::{KEY_LIMIT, NoMemory};
 use std::alloc::Global;
 use std::cmp::min;
 use std::marker::Model;
@@ -52,7 +51,7 @@ impl Level {
         requires table { IsTable (piece_in grid.now) grid.now.cells levels.now }
         ensures { IfOk result (λ level. IsLevel (piece_in grid.now) levels.now grid.now.cells left level) }
     {
-        let most = min(LENGTH_LIMIT, left);
+        let most = min(KEY_LIMIT, left);
         let mut entries = Vec::new(alloc);
         for shorter in 0..most {
             entries = with_length(alloc, grid, levels, left, most - shorter, entries)?;

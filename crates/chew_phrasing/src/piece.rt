@@ -1,4 +1,4 @@
-ghost use Rattle.std.specs.Prelude.{◌≡◌};
+ghost use Rattle.std.specs.Prelude.{◌≡◌, [], ◌∷◌};
 ghost use Rattle.chew_spec_phrasing.specs.Usable.{piece_of_choice, piece_of_hit};
 
 use chew_plain::Hit;
@@ -38,6 +38,8 @@ impl Choice {
 }
 
 impl Default for Choice {
+    ghost is_default = { λ choice. choice ≡ record { start = 0; phrase = 228 ∷ 184 ∷ 128 ∷ []; freq = 0 } };
+
     /// 一 at the first cell, since some choice has to fill unused places.
     fn default() -> Self {
         Choice {

@@ -19,7 +19,7 @@ use std::cmp::{max, min};
 use std::marker::Model;
 
 /// The latest time of a learn.
-const LATEST_LEARN: u64 = u64::MAX - 1;
+pub const LATEST_LEARN: u64 = u64::MAX - 1;
 
 /// The user's dictionary: its pairs, how many learns came before, and the number of pairs from which on no new one is
 /// added.

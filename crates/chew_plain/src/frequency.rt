@@ -1,10 +1,8 @@
 ghost use Rattle.std.specs.Prelude.{◌≡◌, ◌≤◌};
 ghost use Rattle.chew_spec_dictionary.specs.Frequency.{fall, rise, update};
 
+use chew_syllable::GREATEST_FREQ;
 use std::cmp::{max, min};
-
-/// The greatest frequency.
-const GREATEST: u32 = 99_999_999;
 
 /// A pair that is learnt again after less than this many learns was learnt soon before.
 const SOON: u64 = 4_000;
@@ -49,10 +47,10 @@ pub fn next_freq(freq: u32, orig: u32, max: u32, ticks: u64) -> u32
     ensures range { result ≤ 99_999_999 }
 {
     if ticks < SOON {
-        min(rise(freq, orig, max, 5, 10), GREATEST)
+        min(rise(freq, orig, max, 5, 10), GREATEST_FREQ)
     } else if ticks < LATE {
-        min(rise(freq, orig, max, 10, 5), GREATEST)
+        min(rise(freq, orig, max, 10, 5), GREATEST_FREQ)
     } else {
-        min(fall(freq, orig), GREATEST)
+        min(fall(freq, orig), GREATEST_FREQ)
     }
 }

@@ -4,13 +4,13 @@ ghost use Rattle.chew_spec_dictionary.specs.HiddenPairs.{is_hidden, can_hide};
 use chew_syllable::{KeyRow, Syllable};
 
 /// The time of a hidden pair.
-pub(crate) const HIDDEN_TIME: u64 = u64::MAX;
+pub const HIDDEN_TIME: u64 = u64::MAX;
 
 /// The least syllables of a key whose phrases can be hidden.
 const LEAST_SYLLABLES: usize = 2;
 
 /// Whether phrases of this key can be hidden: it has at least two syllables.
-pub(crate) fn can_hide(key: &[Syllable]) -> bool
+pub fn can_hide(key: &[Syllable]) -> bool
     ensures { result ≡ can_hide key.now }
 {
     key.len() >= LEAST_SYLLABLES

@@ -2,13 +2,10 @@ ghost use Rattle.std.specs.Prelude.{◌≡◌, ◌+◌, ◌<◌, ◌≤◌, ◌+
 ghost use Rattle.chew_spec_dictionary.specs.Look as look;
 ghost use Rattle.chew_plain.specs.Look.{intervals_from};
 
-use chew_syllable::NoMemory;
+use chew_syllable::{KEY_LIMIT, NoMemory};
 use std::alloc::Global;
 use std::cmp::min;
 use std::marker::Model;
-
-/// The most syllables of an interval that is looked up.
-const INTERVAL_LIMIT: usize = 11;
 
 /// Some syllables of a run that follow one another.
 #[derive(Clone, Copy, Debug, Drop)]
@@ -51,7 +48,7 @@ fn push_from(list: &mut Vec<Interval>, count: usize, start: usize) -> Result<(),
     requires inside { start < count }
     ensures { OnOk result (list.new.items ≡ list.old.items ++ intervals_from count start) }
 {
-    let limit = min(INTERVAL_LIMIT, count - start);
+    let limit = min(KEY_LIMIT, count - start);
     for len in 1..limit + 1 {
         list.push(Interval { start, len })?;
     }

@@ -24,8 +24,10 @@ mod reply;
 mod row_map;
 
 pub use call::Call;
+pub use dictionary::LATEST_LEARN;
 pub use entry::Entry;
 pub use frequency::next_freq;
+pub use hidden::{HIDDEN_TIME, can_hide};
 pub use hit::Hit;
 pub use hits::Hits;
 pub use interval::{Interval, intervals};

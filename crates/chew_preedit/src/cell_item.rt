@@ -5,7 +5,7 @@ ghost use Rattle.chew_preedit.specs.CellItem.{cell_of, is_printable_item};
 
 use crate::splice::CELL_LIMIT;
 use arrayvec::ArrayVec;
-use chew_syllable::Syllable;
+use chew_syllable::{Syllable, array_of};
 
 /// What a cell of the buffer holds.
 #[derive(Clone, Copy, Debug, PartialEq, Eq)]
@@ -17,6 +17,10 @@ pub enum CellItem {
 }
 
 impl Default for CellItem {
+    ghost use Rattle.chew_preedit.specs.declared.cell_item.CellItem.TheVariants as items;
+
+    ghost is_default = { λ item. item ≡ items.Symbol 32 };
+
     /// A space, since some item has to fill unused places.
     fn default() -> Self {
         CellItem::Symbol(b' ')
@@ -75,8 +79,5 @@ pub(crate) fn cells_behind(cells: &[CellItem], count: u8) -> ArrayVec<CellItem, 
     requires few { length cells.now ≤ 39 }
     ensures { result.items ≡ drop count cells.now }
 {
-    match ArrayVec::try_from(&cells[usize::from(count)..]) {
-        Ok(behind) => behind,
-        Err(_) => unreachable!(),
-    }
+    array_of(&cells[usize::from(count)..])
 }

@@ -3,16 +3,14 @@ ghost use Rattle.std.specs.Prelude.{◌≡◌, ◌≤◌, length};
 use crate::splice::CELL_LIMIT;
 use arrayvec::ArrayVec;
 use chew_phrasing::Choice;
+use chew_syllable::array_of;
 
 /// The same breaks once more.
 pub(crate) fn breaks_copied(breaks: &[u8]) -> ArrayVec<u8, CELL_LIMIT>
     requires { length breaks.now ≤ 39 }
     ensures { result.items ≡ breaks.now }
 {
-    match ArrayVec::try_from(breaks) {
-        Ok(copied) => copied,
-        Err(_) => unreachable!(),
-    }
+    array_of(breaks)
 }
 
 /// The same choices once more.

@@ -14,3 +14,4 @@ mod splice;
 pub use cell_item::CellItem;
 pub use placed_run::PlacedRun;
 pub use preedit::Preedit;
+pub use runs::RUNS_LIMIT;

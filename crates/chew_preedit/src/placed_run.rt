@@ -55,6 +55,8 @@ impl PlacedRun {
 }
 
 impl Default for PlacedRun {
+    ghost is_default = { λ run. run ≡ record { start = 0; codes = [] } };
+
     /// No syllables, since something has to fill unused places.
     fn default() -> Self {
         PlacedRun {

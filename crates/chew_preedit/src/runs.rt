@@ -12,12 +12,12 @@ use arrayvec::ArrayVec;
 use chew_phrasing::Choice;
 use chew_syllable::{Run, Syllable};
 
-/// The most runs of a buffer.
-const RUN_LIMIT: usize = 20;
+/// The most runs of a buffer: every other cell parts two.
+pub const RUNS_LIMIT: usize = 20;
 
 impl Preedit {
     /// The runs, from left to right.
-    pub fn runs(&self) -> ArrayVec<PlacedRun, RUN_LIMIT>
+    pub fn runs(&self) -> ArrayVec<PlacedRun, RUNS_LIMIT>
         ensures { result.items ≡ runs_of self.now.cells }
     {
         runs_of(self.cells.as_slice())
@@ -50,7 +50,7 @@ impl Preedit {
 }
 
 /// The runs of the cells, from left to right.
-fn runs_of(cells: &[CellItem]) -> ArrayVec<PlacedRun, RUN_LIMIT>
+fn runs_of(cells: &[CellItem]) -> ArrayVec<PlacedRun, RUNS_LIMIT>
     requires { length cells.now ≤ 39 }
     ensures { result.items ≡ runs_of (map cell_of cells.now) }
 {

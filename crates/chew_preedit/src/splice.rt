@@ -5,9 +5,10 @@ ghost use Rattle.chew_preedit.specs.Splice.{moved_choice, moved_place};
 
 use arrayvec::ArrayVec;
 use chew_phrasing::Choice;
+use chew_syllable::RUN_LIMIT;
 
-/// The most cells of a buffer.
-pub(crate) const CELL_LIMIT: usize = 39;
+/// The most cells of a buffer, which are looked up as one run when all are syllables.
+pub(crate) const CELL_LIMIT: usize = RUN_LIMIT;
 
 /// Some cells of a buffer that are cut out, and how many come in their stead.
 #[derive(Clone, Copy)]

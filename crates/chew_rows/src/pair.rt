@@ -1,12 +1,12 @@
 ghost use Rattle.std.specs.Prelude.{◌≡◌};
 
 use arrayvec::ArrayVec;
-use chew_syllable::{Key, Syllable};
+use chew_syllable::{KEY_LIMIT, Key, Syllable, array_of};
 
 /// A key and the bytes of a phrase under it, which are lent from the text.
 #[derive(PartialEq, Eq, PartialOrd, Ord, Drop)]
 pub(crate) struct Pair<'a> {
-    pub(crate) key: ArrayVec<Syllable, 11>,
+    pub(crate) key: ArrayVec<Syllable, KEY_LIMIT>,
     pub(crate) phrase: &'a [u8],
 }
 
@@ -16,9 +16,9 @@ impl<'a> Pair<'a> {
         ensures key { result.key.items ≡ key.now }
         ensures phrase { result.phrase.now ≡ phrase.now }
     {
-        match ArrayVec::try_from(key.list()) {
-            Ok(key) => Pair { key, phrase },
-            Err(_) => unreachable!(),
+        Pair {
+            key: array_of(key.list()),
+            phrase,
         }
     }
 }

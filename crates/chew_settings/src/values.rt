@@ -8,7 +8,9 @@ ghost use Rattle.chew_spec_settings.specs.Values as spec;
 ghost use Rattle.chew_settings.specs.Faults.{told, told_by};
 
 use crate::fault::SettingCause;
+use crate::settings::Settings;
 use chew_layouts::Kind;
+use chew_syllable::{RUN_LIMIT, USER_ROWS_LIMIT};
 use toml::{Table, Value};
 
 /// The layout that a table sets, or the standard one.
@@ -17,7 +19,7 @@ pub(crate) fn layout_in(table: &Table) -> Result<Kind, SettingCause>
 {
     match value_at(table, "layout") {
         Some(value) => layout_value(value),
-        None => Ok(Kind::Standard),
+        None => Ok(Settings::standard().layout),
     }
 }
 
@@ -26,8 +28,8 @@ pub(crate) fn buffer_in(table: &Table) -> Result<u8, SettingCause>
     ensures { told result ≡ spec.buffer_in (table_view table.now) }
 {
     match value_at(table, "buffer") {
-        Some(value) => small_number(value, 39),
-        None => Ok(10),
+        Some(value) => small_number(value, RUN_LIMIT as u8),
+        None => Ok(Settings::standard().buffer),
     }
 }
 
@@ -37,7 +39,7 @@ pub(crate) fn page_in(table: &Table) -> Result<u8, SettingCause>
 {
     match value_at(table, "page") {
         Some(value) => small_number(value, 10),
-        None => Ok(10),
+        None => Ok(Settings::standard().page),
     }
 }
 
@@ -47,7 +49,7 @@ pub(crate) fn selection_in(table: &Table) -> Result<[u8; 10], SettingCause>
 {
     match value_at(table, "selection") {
         Some(value) => selection_value(value),
-        None => Ok(*b"1234567890"),
+        None => Ok(Settings::standard().selection),
     }
 }
 
@@ -57,7 +59,7 @@ pub(crate) fn escape_clears_in(table: &Table) -> Result<bool, SettingCause>
 {
     match value_at(table, "escape_clears") {
         Some(value) => truth(value),
-        None => Ok(false),
+        None => Ok(Settings::standard().escape_clears),
     }
 }
 
@@ -67,7 +69,7 @@ pub(crate) fn learn_in(table: &Table) -> Result<bool, SettingCause>
 {
     match value_at(table, "learn") {
         Some(value) => truth(value),
-        None => Ok(true),
+        None => Ok(Settings::standard().learn),
     }
 }
 
@@ -76,8 +78,8 @@ pub(crate) fn cap_in(table: &Table) -> Result<u32, SettingCause>
     ensures { told result ≡ spec.cap_in (table_view table.now) }
 {
     match value_at(table, "cap") {
-        Some(value) => number_up_to(value, 200_000),
-        None => Ok(65_536),
+        Some(value) => number_up_to(value, USER_ROWS_LIMIT),
+        None => Ok(Settings::standard().cap),
     }
 }
 

@@ -13,15 +13,12 @@ ghost use Rattle.chew_layers.specs.Need.{meaning_of};
 ghost use Rattle.chew_shared.specs.Legal.{AreLegal};
 
 use chew_cell::Chronicle;
-use chew_layers::{Layers, Need, Snapshot};
+use chew_layers::{KEEPER, Layers, Need, Snapshot};
 use chew_plain::{Call, Entry, Reply};
 use chew_syllable::NoMemory;
 use chew_trie_read::Trie;
 use std::marker::Model;
 use std::sync::Arc;
-
-/// The keeper's number, under which freezes and installs are entered.
-const KEEPER: u32 = 0;
 
 /// Layers whose journal is legal: the keeper made the freezes and installs, and nothing else.
 #[derive(Drop)]

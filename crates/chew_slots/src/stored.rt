@@ -7,12 +7,10 @@ ghost use Rattle.chew_slots.specs.Contents.{TellsFaulty, reading_of};
 
 use crate::damage::fault_in;
 use crate::fields::{HEAD_LEN, image_len, is_open, life_in, seq_in};
+use chew_syllable::USER_ROWS_LIMIT;
 use chew_trie_read::Trie;
 use std::alloc::Global;
 use std::marker::Model;
-
-/// The most rows of a slot.
-const ROWS_LIMIT: u32 = 200_000;
 
 /// Where the image tells how many rows it has.
 const ROWS_PLACE: u64 = 41;
@@ -82,7 +80,7 @@ fn with_image(alloc: Global, bytes: &[u8]) -> Result<Stored, StoredFault>
         Ok(map) => map,
         Err(fault) => return Err(fault),
     };
-    if map.total() > ROWS_LIMIT {
+    if map.total() > USER_ROWS_LIMIT {
         return Err(StoredFault::Damaged { place: ROWS_PLACE });
     }
     Ok(Stored {

@@ -11,6 +11,6 @@ mod make;
 mod opened;
 mod opening;
 mod output;
-mod reading;
 mod run;
+mod source_reading;
 mod writing;

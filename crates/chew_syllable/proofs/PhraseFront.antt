@@ -9,6 +9,7 @@ use Rattle.std.proofs.lemmas.Bool.{and_parts, and_from, cond-true, cond-false, c
 use Rattle.std.proofs.lemmas.List.{length-append, length-take, length-take-le, take-append-drop, append_assoc, take-take}
 use Rattle.std.proofs.lemmas.Str.{chars-encodes, chars_past_char, encode_same, encodes-chars, scalars-chars, length-encode, len_utf8_bounds, IsUtf8-from_is_utf8, is_utf8-from_IsUtf8}
 use Rattle.chew_spec_syllable.specs.Phrase.{is_allowed, begins_phrase, front_up_to, phrase_end, is_phrase}
+use Rattle.chew_syllable.proofs.Texts.{chars_none}
 use Rattle.chew_syllable.specs.Front.{IsValidFront, allowed_bytes}
 
 -- the characters of a front: allowed, and at most n
@@ -198,6 +199,11 @@ pub none_allowed : (text rest : List ℕ) (c n : ℕ) → IsUtf8 text → text �
 none_allowed text rest c zero valid e refused = refl
 none_allowed text rest c (suc n) valid e refused =
     ap (allowed_bytes (suc n)) (chars_past_char text rest c valid e) ∙ cond-false (is_allowed c) (len_utf8 c + allowed_bytes n (chars rest)) 0 refused
+
+-- an empty text has no allowed characters
+pub nothing_allowed : (text : List ℕ) (n : ℕ) → length text ≡ 0 → allowed_bytes n (chars text) ≡ 0
+nothing_allowed text zero e = refl
+nothing_allowed text (suc n) e = ap (allowed_bytes (suc n)) (chars_none text e)
 
 -- the valid front of a text with a fault
 pub front_before_fault : (text front : List ℕ) (n m : ℕ) → IsValidUpTo text n → m ≡ n → front ≡ take m text → IsValidFront text front

@@ -14,8 +14,8 @@ pub struct Columns {
     pub tones: &'static [u8],
 }
 
-/// The first place of a key in a column.
-fn place_of(column: &[u8], key: u8) -> Option<usize>
+/// The first place of a key in a column, counted from 0.
+pub fn place_of(column: &[u8], key: u8) -> Option<usize>
     ensures value { result ≡ position (λ k. k == key) column.now }
     ensures range { IfSome result (λ place. place < length column.now) }
 {

@@ -36,8 +36,8 @@ pub struct BadPhrase {
     pub place: usize,
 }
 
-/// Whether a character may stand in a phrase.
-fn is_allowed(character: char) -> bool
+/// Whether a character may stand in a phrase: from U+00A1 on, and no white space.
+pub fn is_allowed(character: char) -> bool
     ensures { result ≡ is_allowed character }
 {
     if character < FIRST_ALLOWED {
@@ -67,15 +67,11 @@ fn after_allowed(text: &str) -> Option<&str>
     ensures shorter { IfSome result (λ rest. length rest.now < length text.now) }
 {
     let mut characters = text.chars();
-    match characters.next() {
-        Some(first) => {
-            if is_allowed(first) {
-                Some(characters.as_str())
-            } else {
-                None
-            }
-        }
-        None => None,
+    let first = characters.next()?;
+    if is_allowed(first) {
+        Some(characters.as_str())
+    } else {
+        None
     }
 }
 

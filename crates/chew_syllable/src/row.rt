@@ -7,6 +7,12 @@ use std::marker::Model;
 /// The greatest frequency of a row.
 pub const GREATEST_FREQ: u32 = 99_999_999;
 
+/// The most rows of a system's dictionary.
+pub const SYSTEM_ROWS_LIMIT: u32 = 250_000;
+
+/// The most rows of a user's dictionary.
+pub const USER_ROWS_LIMIT: u32 = 200_000;
+
 /// A phrase under its key, with as many characters as the key has syllables.
 #[derive(Debug, Drop)]
 pub struct KeyRow {

@@ -1,5 +1,5 @@
 -- Whether bytes are a phrase of so many characters.
-use Rattle.std.proofs.Common.{◌≡◌, ℕ, ◌≤◌, Bool, true, false, ◌&&◌, ◌==◌, eqb, ltb, leb, List, [], ◌∷◌, length, refl, sym, ap, ◌∙◌, eqb-true, arith}
+use Rattle.std.proofs.Common.{◌≡◌, ℕ, ◌≤◌, Bool, true, false, ◌&&◌, ◌==◌, ltb, leb, List, [], ◌∷◌, length, refl, sym, ap, ◌∙◌, eqb-true, arith}
 use Rattle.std.specs.List.{list_all}
 use Rattle.std.specs.Str.{IsUtf8, is_utf8, chars}
 use Rattle.std.proofs.lemmas.Bool.{and_parts, false_from_ne_true, lt-ltb, le-leb}
@@ -34,11 +34,6 @@ no_text text len none = false_from_ne_true _
     let q = and_parts (ltb 0 (length text)) (begins_phrase text) p.0 in
     let u = and_parts (is_utf8 text) (list_all is_allowed (chars text) && leb (length (chars text)) 11) q.1 in
     none (IsUtf8-from_is_utf8 text u.0))
-
--- an empty text has no characters
-pub chars_none : (text : List ℕ) → length text ≡ 0 → chars text ≡ []
-chars_none [] e = chars-nil
-chars_none (b ∷ text) e = absurd (omega arith)
 
 some_bytes : (text : List ℕ) → 1 ≤ length (chars text) → 1 ≤ length text
 some_bytes [] h = absurd (let e = ap length chars-nil in omega arith)

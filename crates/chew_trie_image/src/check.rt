@@ -14,10 +14,7 @@ pub fn check_image(bytes: &[u8]) -> Result<(), ImageFault>
         Ok(parts) => parts,
         Err(fault) => return Err(fault),
     };
-    let walk = match check_nodes(&parts) {
-        Ok(walk) => walk,
-        Err(fault) => return Err(fault),
-    };
+    let walk = check_nodes(&parts)?;
     if walk.nodes.next_row != parts.counts.rows {
         return Err(ImageFault { place: 8 });
     }

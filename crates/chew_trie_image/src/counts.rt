@@ -6,13 +6,11 @@ use crate::fault::ImageFault;
 use crate::fields::ROW_LEN;
 use crate::node::NODE_LEN;
 use crate::number::u32_at;
+use chew_syllable::SYSTEM_ROWS_LIMIT;
 use std::marker::Model;
 
 /// How many bytes stand before the nodes.
 pub const HEADER_LEN: usize = 20;
-
-/// The most rows of an image.
-const ROWS_LIMIT: u32 = 250_000;
 
 /// How many rows, nodes and bytes of text an image has.
 #[derive(Clone, Copy, Debug, PartialEq, Eq)]
@@ -97,7 +95,7 @@ pub(crate) fn check_counts(counts: &Counts, len: usize) -> Result<(), ImageFault
     ensures text { OnOk result (counts.now.text ≤ 44 * counts.now.rows) }
     ensures err { IfErr result (λ fault. counts_fault counts.now len ≡ Some fault.place) }
 {
-    if counts.rows > ROWS_LIMIT {
+    if counts.rows > SYSTEM_ROWS_LIMIT {
         return Err(ImageFault { place: 8 });
     }
     if counts.nodes == 0 || counts.nodes > 11 * counts.rows + 1 {

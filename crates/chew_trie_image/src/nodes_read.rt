@@ -5,11 +5,8 @@ ghost use Rattle.chew_spec_image.specs.ReadNodes.{at_root, node_fault, past_node
 use crate::counts::{Counts, HEADER_LEN};
 use crate::fault::ImageFault;
 use crate::node::{NODE_LEN, Node};
-use chew_syllable::Syllable;
+use chew_syllable::{KEY_LIMIT, Syllable};
 use std::marker::Model;
-
-/// The most codes of a key.
-const KEY_LIMIT: u32 = 11;
 
 /// What the nodes read so far leave.
 #[derive(Clone, Copy)]
@@ -128,7 +125,7 @@ impl NodesRead {
         if u64::from(self.next_child) + u64::from(node.children) > u64::from(counts.nodes) {
             return Err(self.fault(2));
         }
-        if len >= KEY_LIMIT && node.children != 0 {
+        if len >= KEY_LIMIT as u32 && node.children != 0 {
             return Err(self.fault(2));
         }
         if node.first_child != self.next_child {

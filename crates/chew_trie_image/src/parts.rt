@@ -5,7 +5,7 @@ use crate::counts::{Counts, HEADER_LEN, check_counts, counts_in};
 use crate::fault::ImageFault;
 
 /// The bytes with which every image begins.
-const MAGIC: [u8; 8] = *b"CHEWTRI1";
+pub const MAGIC: [u8; 8] = *b"CHEWTRI1";
 
 /// Bytes that begin as an image does and are as long as the numbers in their header say.
 #[derive(Drop)]
@@ -36,10 +36,8 @@ impl<'a> Parts<'a> {
             });
         }
         let counts = counts_in(bytes);
-        match check_counts(&counts, bytes.len()) {
-            Ok(()) => Ok(Parts { bytes, counts }),
-            Err(fault) => Err(fault),
-        }
+        check_counts(&counts, bytes.len())?;
+        Ok(Parts { bytes, counts })
     }
 
     /// The bytes of all phrases.

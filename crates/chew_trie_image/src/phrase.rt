@@ -2,11 +2,7 @@ ghost use Rattle.std.specs.Prelude.{◌≡◌, ◌∷◌, [], ◌&&◌, ◌==◌
 ghost use Rattle.std.specs.List.{list_all};
 ghost use Rattle.chew_spec_syllable.specs.Phrase.{is_allowed, is_phrase};
 
-/// The most characters of a phrase.
-const CHARACTER_LIMIT: u32 = 11;
-
-/// The least character that may stand in a phrase.
-const FIRST_ALLOWED: char = '\u{A1}';
+use chew_syllable::{CHARACTER_LIMIT, is_allowed, split_character};
 
 /// Whether bytes are a phrase of so many characters. No copy of the phrase is made.
 pub(crate) fn is_phrase_of(bytes: &[u8], len: u32) -> bool
@@ -15,7 +11,7 @@ pub(crate) fn is_phrase_of(bytes: &[u8], len: u32) -> bool
     if len == 0 {
         return false;
     }
-    if len > CHARACTER_LIMIT {
+    if len > CHARACTER_LIMIT as u32 {
         return false;
     }
     match str::from_utf8(bytes) {
@@ -40,26 +36,4 @@ fn has_allowed(text: &str, count: u32) -> bool
         }
         None => count == 0,
     }
-}
-
-/// The first character of a text, and what follows it; `None` where the text is empty.
-fn split_character(text: &str) -> Option<(char, &str)>
-    ensures some { IfSome result (λ split. chars text.now ≡ split.0 ∷ chars split.1.now) }
-    ensures none { IfNone result (chars text.now ≡ []) }
-{
-    let mut characters = text.chars();
-    match characters.next() {
-        Some(first) => Some((first, characters.as_str())),
-        None => None,
-    }
-}
-
-/// Whether a character may stand in a phrase.
-fn is_allowed(character: char) -> bool
-    ensures { result ≡ is_allowed character }
-{
-    if character < FIRST_ALLOWED {
-        return false;
-    }
-    !character.is_whitespace()
 }

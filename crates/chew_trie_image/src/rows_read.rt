@@ -6,10 +6,8 @@ use crate::counts::Counts;
 use crate::fault::ImageFault;
 use crate::fields::{ROW_LEN, RowFields};
 use crate::phrase::is_phrase_of;
+use chew_syllable::GREATEST_FREQ;
 use std::marker::Model;
-
-/// The greatest frequency.
-const GREATEST_FREQ: u32 = 99_999_999;
 
 /// What the rows read so far leave.
 #[derive(Drop)]

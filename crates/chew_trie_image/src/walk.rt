@@ -47,10 +47,8 @@ fn check_rows<'a>(
 {
     for i in 0..count {
         let row = row_at(parts.bytes, read.place);
-        match read.check_row(parts.text(), len, i == 0, &row) {
-            Err(fault) => return Err(fault),
-            Ok(()) => *read = read.past(parts.text(), &row),
-        }
+        read.check_row(parts.text(), len, i == 0, &row)?;
+        *read = read.past(parts.text(), &row);
     }
     Ok(())
 }
@@ -95,14 +93,10 @@ fn check_child<'a>(
         (record { key = key; first = first } ∷ later) (suc left) ≡ Some fault.place) }
 {
     let node = node_at(parts.bytes, walk.nodes.place);
-    match walk.nodes.check_node(&parts.counts, len, first, &node) {
-        Err(fault) => Err(fault),
-        Ok(()) => {
-            walk.nodes = walk.nodes.past(&node);
-            check_rows_behind(parts, len, node.rows, walk);
-            Ok(())
-        }
-    }
+    walk.nodes.check_node(&parts.counts, len, first, &node)?;
+    walk.nodes = walk.nodes.past(&node);
+    check_rows_behind(parts, len, node.rows, walk);
+    Ok(())
 }
 
 /// The children of a node, whose keys have so many codes, and their rows.
@@ -126,10 +120,7 @@ fn check_children<'a>(
         → fault_ahead parts.now.bytes.now parts.now.counts walk.old.nodes walk.old.fault walk.old.rows (due_under key count ++ later) left ≡ Some fault.place) }
 {
     for i in 0..count {
-        match check_child(parts, len, i == 0, walk) {
-            Ok(()) => {}
-            Err(fault) => return Err(fault),
-        }
+        check_child(parts, len, i == 0, walk)?;
     }
     Ok(())
 }
@@ -147,14 +138,12 @@ fn check_root<'a>(parts: &Parts<'a>) -> Result<Walk<'a>, ImageFault>
 {
     let root = node_at(parts.bytes, HEADER_LEN);
     let before = NodesRead::at_root();
-    match before.check_root(&parts.counts, &root) {
-        Err(fault) => Err(fault),
-        Ok(()) => Ok(Walk {
-            nodes: before.past(&root),
-            rows: RowsRead::at_rows(&parts.counts),
-            fault: None,
-        }),
-    }
+    before.check_root(&parts.counts, &root)?;
+    Ok(Walk {
+        nodes: before.past(&root),
+        rows: RowsRead::at_rows(&parts.counts),
+        fault: None,
+    })
 }
 
 /// The level of the next node, which begins at a place, where all nodes up to another were read.
@@ -179,10 +168,7 @@ pub(crate) fn check_nodes<'a>(parts: &Parts<'a>) -> Result<Walk<'a>, ImageFault>
     ensures rows { IfOk result (λ walk. walk.nodes.next_row ≤ parts.now.counts.rows) }
     ensures err { IfErr result (λ fault. image_place parts.now.bytes.now ≡ Some fault.place) }
 {
-    let mut walk = match check_root(parts) {
-        Ok(walk) => walk,
-        Err(fault) => return Err(fault),
-    };
+    let mut walk = check_root(parts)?;
     let mut level = Level {
         len: 0,
         end: HEADER_LEN,
@@ -194,10 +180,7 @@ pub(crate) fn check_nodes<'a>(parts: &Parts<'a>) -> Result<Walk<'a>, ImageFault>
         }
         level = level_at(level, place, walk.nodes.place);
         let children = node_at(parts.bytes, place).children;
-        match check_children(parts, level.len, children, &mut walk) {
-            Ok(()) => {}
-            Err(fault) => return Err(fault),
-        }
+        check_children(parts, level.len, children, &mut walk)?;
     }
     Ok(walk)
 }

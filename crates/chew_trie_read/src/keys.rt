@@ -4,10 +4,7 @@ ghost use Rattle.chew_trie_read.specs.Search.{code_at, key_at};
 ghost use Rattle.chew_trie_read.specs.Start.{start_at};
 
 use crate::image::Image;
-use chew_syllable::{Key, Syllable};
-
-/// The most syllables of a key.
-const KEY_LIMIT: usize = 11;
+use chew_syllable::{KEY_LIMIT, Key, Syllable};
 
 /// What of a node begins at a place: its children among all nodes, or its rows among all rows.
 #[derive(Clone, Copy)]

@@ -7,7 +7,7 @@ ghost use Rattle.chew_spec_dictionary.specs.History.{is_user_call};
 ghost use Rattle.chew_plain.specs.Call.{call_of};
 
 use chew_plain::Call;
-use chew_syllable::{Key, Phrase};
+use chew_syllable::{GREATEST_FREQ, Key, Phrase, RUN_LIMIT};
 
 /// Whether a phrase has as many characters as its key has syllables.
 fn are_pair(key: &Key, phrase: &Phrase) -> bool
@@ -24,7 +24,7 @@ pub fn is_of_user(call: &Call) -> bool
     ensures { result ≡ is_user_call (call_of call.now) }
 {
     match call {
-        Call::Look(run) => run.list().len() <= 39,
+        Call::Look(run) => run.list().len() <= RUN_LIMIT,
         Call::Learn {
             key,
             phrase,
@@ -37,7 +37,7 @@ pub fn is_of_user(call: &Call) -> bool
             if *orig > *peak {
                 return false;
             }
-            *peak <= 99_999_999
+            *peak <= GREATEST_FREQ
         }
         Call::Forget { key, phrase } => are_pair(key, phrase),
         Call::Hide { key, phrase } => {

@@ -9,7 +9,7 @@ ghost use Rattle.chewing_cli.specs.Runs.{IsKeptRun};
 
 use crate::done::Done;
 use crate::opening::open;
-use crate::run::run;
+use crate::run::run_opened;
 use crate::sending::refuse;
 use crate::words::asks_trace;
 use chew_outside::{Disk, Gate, Sink, Source};
@@ -58,7 +58,7 @@ pub fn chewing<
     ensures statuses { Contains (0 ∷ 2 ∷ 3 ∷ 4 ∷ 5 ∷ 6 ∷ 7 ∷ 8 ∷ 9 ∷ 10 ∷ 11 ∷ []) result.status }
 {
     match open(alloc, words, settings, system, script, disk) {
-        Ok(opened) => run(alloc, rt, asks_trace(words), opened, sink, disk, gate),
+        Ok(opened) => run_opened(alloc, rt, asks_trace(words), opened, sink, disk, gate),
         Err(refusal) => refuse(alloc, refusal, sink),
     }
 }

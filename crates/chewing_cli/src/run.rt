@@ -37,7 +37,7 @@ use std::sync::Wait;
 use std::thread::Threads;
 
 /// Runs the script's contexts at once over the user's dictionary, with a worker that saves it, and writes their lines.
-pub(crate) fn run<R: Wait + Threads + Sync, O: Sink, D: Disk, G: Gate>(
+pub(crate) fn run_opened<R: Wait + Threads + Sync, O: Sink, D: Disk, G: Gate>(
     alloc: Global,
     rt: &R,
     trace: bool,

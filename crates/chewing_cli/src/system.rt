@@ -10,6 +10,7 @@ ghost use Rattle.chewing_cli.specs.Refusals.{outcome_of};
 use crate::refusal::Refusal;
 use chew_plain::RowMap;
 use chew_rows::{RowCause, SYSTEM_LIMIT, read_rows};
+use chew_trie_image::MAGIC;
 use chew_trie_read::Trie;
 use std::alloc::Global;
 
@@ -19,9 +20,6 @@ pub(crate) enum System {
     Text(RowMap),
     Image(Trie),
 }
-
-/// The eight bytes that an image begins with.
-const MAGIC: [u8; 8] = *b"CHEWTRI1";
 
 /// The system that bytes are: an image where its first eight bytes say so, and else a text.
 pub(crate) fn system_of(alloc: Global, bytes: Vec<u8>) -> Result<System, Refusal>

@@ -1,6 +1,6 @@
 use crate::figures::print_time;
 use crate::learning::Learning;
-use chew_layers::Layers;
+use chew_layers::{KEEPER, Layers};
 use chew_measuring::Failure;
 use chew_merge::merge;
 use chew_trie_read::Trie;
@@ -8,9 +8,6 @@ use std::alloc::Global;
 use std::io::Print;
 use std::sync::Arc;
 use std::time::{CpuClock, Duration};
-
-/// The number of who freezes and installs.
-const KEEPER: u32 = 0;
 
 /// What became the base, and how long it took.
 #[derive(Drop)]

@@ -9,12 +9,9 @@ use chew_layouts::{Kind, Layout};
 use chew_measuring::Failure;
 use chew_phrasing::{Piece, best_of_run};
 use chew_plain::{Call, Hit, Hits, Lexicon, Plain, Reply, RowMap};
-use chew_syllable::{Key, NoMemory, Phrase, Run, Step, Syllable};
+use chew_syllable::{Key, NoMemory, Phrase, RUN_LIMIT, Run, Step, Syllable};
 use std::alloc::Global;
 use std::time::CpuClock;
-
-/// The most cells of a buffer.
-const CELL_LIMIT: usize = 39;
 
 /// The most pairs of a user's dictionary.
 const CAP: u32 = 65_536;
@@ -58,7 +55,7 @@ impl Typing {
                 self.phrase(rt, figures)?;
             }
         }
-        if self.cells.len() >= CELL_LIMIT {
+        if self.cells.len() >= RUN_LIMIT {
             self.learn_all(rt, figures)?;
         }
         Ok(())

@@ -1,5 +1,5 @@
 -- A part of the range is torn no more than the whole.
-use Rattle.std.proofs.Common.{◌≡◌, ◌≤◌, length, arith, subst, sym}
+use Rattle.std.proofs.Common.{◌≤◌, length, arith, subst, sym}
 use Rattle.chew_spec_disk.specs.Write.{Torn}
 use Rattle.chew_spec_disk.proofs.Crashes.{torn-less}
 use Rattle.chew_spec_disk.proofs.Written.{torn-written}

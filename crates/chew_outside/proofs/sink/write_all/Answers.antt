@@ -10,9 +10,9 @@ writing-preserved g c =
     let bytes = c.args.bytes.now in
     let long = length-drop c.writing.done bytes in
     let rest : take (length bytes - c.writing.done) (drop c.writing.done bytes) ≡ drop c.writing.done bytes = take_all _ _ (omega arith) in
-    let takes = subst (λ piece. Takes (g.O.Sink.taken c.writing.sink) (g.O.Sink.taken c.write.new.self) piece c.in-Ok.count) rest c.in-Ok.ensures.ok in
+    let takes = subst (λ piece. Takes (g.O.Sink.taken c.writing.sink) (g.O.Sink.taken c.write.new.self) piece c.in_ok-done.field-0) rest c.in_ok-done.ensures.ok in
     record {
       within = omega (arith, takes.fits);
-      taken = takes-chain _ _ _ bytes c.writing.done c.in-Ok.count c.writing.invariant.taken takes;
-      faults = c.in-Ok.ensures.cause.same refl ∙ c.writing.invariant.faults;
+      taken = takes-chain _ _ _ bytes c.writing.done c.in_ok-done.field-0 c.writing.invariant.taken takes;
+      faults = c.in_ok-done.ensures.cause.same refl ∙ c.writing.invariant.faults;
     }

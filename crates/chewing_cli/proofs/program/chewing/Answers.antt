@@ -15,8 +15,8 @@ use Rattle.chewing_cli.specs.Runs.{EndsOpened}
 use Rattle.chewing_cli.proofs.Runs.{run_opened}
 use Rattle.chewing_cli.proofs.program.chewing.Goals as goal
 
-pub run-requires-clause-limits : goal.run-requires-clause-limits
-run-requires-clause-limits g c = λ lives within.
+pub run_opened-requires-clause-limits : goal.run_opened-requires-clause-limits
+run_opened-requires-clause-limits g c = λ lives within.
     let stands = opened-stands (map (λ word. word.now) c.args.words.now) _ _ _ _ (inputs_of c.in-Ok.opened) c.in-Ok.ensures.opens in
     record {
       in_range = stands.settings;
@@ -35,29 +35,29 @@ returns-in-Ok g c =
       settings = watched (g.S.Source.left c.args.settings.now) (g.S.Source.left c.open.new.settings) (g.S.Source.faults c.args.settings.now) (g.S.Source.faults c.open.new.settings);
       system = watched (g.Y.Source.left c.args.system.now) (g.Y.Source.left c.open.new.system) (g.Y.Source.faults c.args.system.now) (g.Y.Source.faults c.open.new.system);
       script = watched (g.I.Source.left c.args.script.now) (g.I.Source.left c.open.new.script) (g.I.Source.faults c.args.script.now) (g.I.Source.faults c.open.new.script);
-      sink = sunk (g.O.Sink.taken c.args.sink.now) (g.O.Sink.taken c.run.new.sink) (g.O.Sink.faults c.args.sink.now) (g.O.Sink.faults c.run.new.sink);
-      disk = kept (g.D.Disk.told c.args.disk.now) (g.D.Disk.state c.args.disk.now) (g.D.Disk.state c.run.new.disk) (g.D.Disk.faults c.args.disk.now) (g.D.Disk.faults c.run.new.disk);
+      sink = sunk (g.O.Sink.taken c.args.sink.now) (g.O.Sink.taken c.run_opened.new.sink) (g.O.Sink.faults c.args.sink.now) (g.O.Sink.faults c.run_opened.new.sink);
+      disk = kept (g.D.Disk.told c.args.disk.now) (g.D.Disk.state c.args.disk.now) (g.D.Disk.state c.run_opened.new.disk) (g.D.Disk.faults c.args.disk.now) (g.D.Disk.faults c.run_opened.new.disk);
     } in
     let opened = c.in-Ok.opened in
     let inputs = inputs_of opened in
     let before = c.args.disk.now in
     let read = c.open.new.disk in
     let ends : EndsOpened inputs (asks_trace words) opened.found.keep outside.sink
-    (kept (g.D.Disk.told before) (g.D.Disk.state read) (g.D.Disk.state c.run.new.disk) (g.D.Disk.faults read) (g.D.Disk.faults c.run.new.disk)) (ended_of c.run.result) =
+    (kept (g.D.Disk.told before) (g.D.Disk.state read) (g.D.Disk.state c.run_opened.new.disk) (g.D.Disk.faults read) (g.D.Disk.faults c.run_opened.new.disk)) (ended_of c.run_opened.result) =
     subst (λ (told : Bool). EndsOpened inputs (asks_trace words) opened.found.keep outside.sink
-    (kept told (g.D.Disk.state read) (g.D.Disk.state c.run.new.disk) (g.D.Disk.faults read) (g.D.Disk.faults c.run.new.disk)) (ended_of c.run.result)) c.in-Ok.ensures.told
+    (kept told (g.D.Disk.state read) (g.D.Disk.state c.run_opened.new.disk) (g.D.Disk.faults read) (g.D.Disk.faults c.run_opened.new.disk)) (ended_of c.run_opened.result)) c.in-Ok.ensures.told
     (subst (λ (trace : Bool). EndsOpened inputs trace opened.found.keep outside.sink
-    (kept (g.D.Disk.told read) (g.D.Disk.state read) (g.D.Disk.state c.run.new.disk) (g.D.Disk.faults read) (g.D.Disk.faults c.run.new.disk)) (ended_of c.run.result)) c.asks_trace.ensures c.run.ensures.ends) in
-    let run : IsRun words outside (ended_of c.run.result) =
-    run_opened words outside (g.D.Disk.state read) (g.D.Disk.faults read) opened.found (ended_of c.run.result) inputs refl refl refl c.in-Ok.ensures.opens c.in-Ok.ensures.ready ends in
+    (kept (g.D.Disk.told read) (g.D.Disk.state read) (g.D.Disk.state c.run_opened.new.disk) (g.D.Disk.faults read) (g.D.Disk.faults c.run_opened.new.disk)) (ended_of c.run_opened.result)) c.asks_trace.ensures c.run_opened.ensures.ends) in
+    let run : IsRun words outside (ended_of c.run_opened.result) =
+    run_opened words outside (g.D.Disk.state read) (g.D.Disk.faults read) opened.found (ended_of c.run_opened.result) inputs refl refl refl c.in-Ok.ensures.opens c.in-Ok.ensures.ready ends in
     record {
-      told = c.run.ensures.told ∙ c.in-Ok.ensures.told;
-      run = record { run = run; kept = λ start same. run-kept words outside (ended_of c.run.result) start run same };
-      words = run-words words outside (ended_of c.run.result) run;
-      source = run-source words outside (ended_of c.run.result) run;
-      sink = run-sink words outside (ended_of c.run.result) run;
-      disk = run-disk words outside (ended_of c.run.result) run;
-      statuses = run-statuses words outside (ended_of c.run.result) run;
+      told = c.run_opened.ensures.told ∙ c.in-Ok.ensures.told;
+      run = record { run = run; kept = λ start same. run-kept words outside (ended_of c.run_opened.result) start run same };
+      words = run-words words outside (ended_of c.run_opened.result) run;
+      source = run-source words outside (ended_of c.run_opened.result) run;
+      sink = run-sink words outside (ended_of c.run_opened.result) run;
+      disk = run-disk words outside (ended_of c.run_opened.result) run;
+      statuses = run-statuses words outside (ended_of c.run_opened.result) run;
     }
 
 pub returns-in-Err : goal.returns-in-Err
