@@ -10,6 +10,8 @@ mod book;
 #[cfg(test)]
 mod editor;
 #[cfg(test)]
+mod largest;
+#[cfg(test)]
 mod opened;
 #[cfg(test)]
 mod part;

@@ -33,6 +33,11 @@ pub(crate) fn is_learned(reply: &Reply, wanted: (u32, u64)) -> bool {
     }
 }
 
+/// Whether a pair was not added, because the dictionary holds as many as it may.
+pub(crate) fn is_full(reply: &Reply) -> bool {
+    matches!(reply, Reply::Full)
+}
+
 /// Whether a pair was forgotten.
 pub(crate) fn is_forgot(reply: &Reply) -> bool {
     matches!(reply, Reply::Forgot)

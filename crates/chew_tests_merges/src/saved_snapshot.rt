@@ -12,7 +12,7 @@ use std::process::Abort;
 use std::test::Fail;
 
 /// A disk of empty slots in which a map is saved.
-fn disk_with(alloc: Global, map: &Trie, life: u64) -> Result<MemDisk, Fail> {
+pub(crate) fn disk_with(alloc: Global, map: &Trie, life: u64) -> Result<MemDisk, Fail> {
     let mut disk = disk_of(alloc, &[], &[])?;
     let mut found = recover(alloc, &mut disk)?;
     save_map(alloc, &mut found.keep, &mut disk, map, life)?;

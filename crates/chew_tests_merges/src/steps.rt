@@ -49,7 +49,7 @@ pub(crate) enum Step<'a> {
 }
 
 /// What the layers reply to a call, if it is one.
-fn reply_to(layers: &mut InLayers, call: Option<Call>) -> Result<Reply, Fail>
+pub(crate) fn reply_to(layers: &mut InLayers, call: Option<Call>) -> Result<Reply, Fail>
     requires proper { IfSome call (λ call. IsTrue (is_proper (call_of call))) }
     requires user { IfSome call (λ call. is_keepers (call_of call) ≡ false) }
 {
@@ -60,7 +60,7 @@ fn reply_to(layers: &mut InLayers, call: Option<Call>) -> Result<Reply, Fail>
 }
 
 /// What the layers reply to a look.
-fn look_up(layers: &mut InLayers, run: &[Syllable]) -> Result<Reply, Fail> {
+pub(crate) fn look_up(layers: &mut InLayers, run: &[Syllable]) -> Result<Reply, Fail> {
     reply_to(layers, look(run))
 }
 

@@ -1,4 +1,5 @@
-//! Tests of phrasing: known scores and segmentations, and a second reading of the rules that tries every segmentation.
+//! Tests of phrasing: known scores and segmentations, the most of a run, and a second reading of the rules that tries every
+//! segmentation.
 #![tactic(auto)]
 
 #[cfg(test)]
@@ -15,6 +16,8 @@ mod hits;
 mod inputs;
 #[cfg(test)]
 mod known;
+#[cfg(test)]
+mod largest;
 #[cfg(test)]
 mod phrasable;
 #[cfg(test)]

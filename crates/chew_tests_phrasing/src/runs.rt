@@ -30,7 +30,7 @@ fn a_phrase_and_a_single(rt: HostRuntime) -> Result<(), Fail> {
 }
 
 /// The rows of 是 once to eleven times, each of frequency 0.
-fn repeated(alloc: Global) -> Result<Vec<KeyRow>, NoMemory> {
+pub(crate) fn repeated(alloc: Global) -> Result<Vec<KeyRow>, NoMemory> {
     let mut rows = Vec::new(alloc);
     let mut key = Vec::new(alloc);
     let mut text = String::new(alloc);
