@@ -76,10 +76,7 @@ impl Buffer {
         ensures layer { IsTrue (is_layer self.now) }
         ensures proper { IsTrue (list_all is_proper_mark self.now) }
     {
-        match self.marks.get(&Ranked::of(key, phrase)) {
-            Some(mark) => Some(*mark),
-            None => None,
-        }
+        self.marks.get(&Ranked::of(key, phrase)).copied()
     }
 
     /// How many pairs have a mark.

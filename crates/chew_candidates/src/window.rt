@@ -141,14 +141,12 @@ impl Window {
         ensures value { result ≡ picked self.now k }
         ensures freq { IfSome result (λ choice. choice.freq ≤ 99_999_999) }
     {
-        match candidate_at(self.on_page(), k) {
-            Some(hit) => Some(Choice {
-                start: self.place,
-                phrase: hit.phrase.copy(),
-                freq: hit.freq,
-            }),
-            None => None,
-        }
+        let hit = candidate_at(self.on_page(), k)?;
+        Some(Choice {
+            start: self.place,
+            phrase: hit.phrase.copy(),
+            freq: hit.freq,
+        })
     }
 }
 

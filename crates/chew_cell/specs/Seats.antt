@@ -64,7 +64,8 @@ pub record IsGathered (before : Sight) (passes : List Pass) (after : Sight) : Ty
   pub among : (who : ℕ) → Contains after.numbers who → Contains before.numbers who ⊎ Contains (map (λ p. p.who) passes) who
 
 -- of passes that are all of this cell some are left, and the seat has taken in those behind them
-pub record IsGathering {S : Type 0} (cell : Cell) (passes : List Pass) (before : Me (Option S) View) (left : List Pass) (now : Me (Option S) View) : Type 0 where
+pub record IsGathering {S : Type 0} (cell : Cell) (passes : List Pass) (before : Me (Option S) View) (left : List Pass)
+    (now : Me (Option S) View) : Type 0 where
   pub done : List Pass
   pub split : passes ≡ left ++ done
   pub ours : All (λ p. p.cell ≡ cell) left

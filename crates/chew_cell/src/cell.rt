@@ -1,5 +1,5 @@
 ghost use Rattle.std.specs.Prelude.{◌≡◌, ◌+◌, ◌<◌, ◌≤◌, [], ◌∷◌, length, map, All, Contains, IfOk, IfSome};
-ghost use Rattle.chew_spec_cell.specs.Pass.{new_passes};
+ghost use Rattle.chew_spec_cell.specs.Pass.{fresh_pass, new_passes};
 ghost use Rattle.chew_spec_cell.specs.Sight.{HasSeen, IsTurn, longer};
 ghost use Rattle.chew_cell.specs.View.{idle, nothing_seen};
 ghost use Rattle.chew_cell.specs.Seats.{IsGathered, IsIdle};
@@ -78,7 +78,7 @@ impl<S: Chronicle> Cell<S> {
         requires seats { who < self.now.seats }
         requires idle { first.old.me ≡ (idle (self.now.start, self.now.seats) nothing_seen, []) }
         ensures same { (first.new.table_id ≡ first.old.table_id) × (first.new.me ≡ first.old.me) }
-        ensures pass { IfSome result (λ p. p ≡ record { cell = self.now; who = who; seen = [] }) }
+        ensures pass { IfSome result (λ p. p ≡ fresh_pass self.now who) }
     {
         let badge = self.turnstile.seat(first, who)?;
         Some(Pass { badge, who })

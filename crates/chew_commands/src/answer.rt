@@ -6,6 +6,7 @@ ghost use Rattle.chew_commands.specs.Outcome.{GivesOrNoMemory, itself};
 ghost use Rattle.chew_commands.specs.Refusals.{outcome_of};
 
 use crate::refusal::Refusal;
+use crate::status;
 use chew_outside::{Failed, Sink, Source, read_up_to, write_all};
 use chew_rows::SYSTEM_LIMIT;
 use std::alloc::Global;
@@ -27,12 +28,12 @@ pub(crate) fn tell<O: Sink>(sink: &mut O, answer: Result<Vec<u8>, Refusal>) -> u
 {
     match answer {
         Ok(text) => match send(sink, text.as_slice()) {
-            Ok(()) => 0,
-            Err(Failed) => 8,
+            Ok(()) => status::DONE,
+            Err(Failed) => status::SINK_FAILED,
         },
         Err(refusal) => {
             // the status of a refusal stays where its line isn't written
-            let _ = send(sink, refusal.line().as_bytes());
+            let _ = send(sink, refusal.refusal_line().as_bytes());
             refusal.status()
         }
     }

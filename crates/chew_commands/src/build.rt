@@ -37,10 +37,8 @@ fn image_from<I: Source>(alloc: Global, from: &mut I) -> Result<Vec<u8>, Refusal
     ensures { GivesOrNoMemory image_of_text (watched (I.left from.old) (I.left from.new) (I.faults from.old) (I.faults from.new))
         (outcome_of (λ bytes. bytes.items) result) }
 {
-    match read_input(alloc, from) {
-        Ok(text) => image_of_text(alloc, text.as_slice()),
-        Err(refusal) => Err(refusal),
-    }
+    let text = read_input(alloc, from)?;
+    image_of_text(alloc, text.as_slice())
 }
 
 /// The image of a text's rows.

@@ -9,7 +9,7 @@ use chew_text::number_up_to;
 const TRACE: &str = "--trace";
 
 /// The most digits of the number of `make`.
-const DIGITS_LIMIT: usize = 20;
+pub const DIGITS_LIMIT: usize = 20;
 
 /// The words have no form of a command.
 #[derive(Clone, Copy, Debug, PartialEq, Eq)]

@@ -50,22 +50,18 @@ fn counts_from<I: Source>(alloc: Global, from: &mut I) -> Result<Vec<u8>, Refusa
     ensures { GivesOrNoMemory check_of (watched (I.left from.old) (I.left from.new) (I.faults from.old) (I.faults from.new))
         (outcome_of (λ bytes. bytes.items) result) }
 {
-    match read_input(alloc, from) {
-        Ok(bytes) => counts_of(alloc, bytes),
-        Err(refusal) => Err(refusal),
-    }
+    let bytes = read_input(alloc, from)?;
+    counts_of(alloc, bytes)
 }
 
 /// The numbers of an image.
 fn counts_of(alloc: Global, bytes: Vec<u8>) -> Result<Vec<u8>, Refusal>
     ensures { IsOrNoMemory (check_of bytes.items) (outcome_of (λ bytes. bytes.items) result) }
 {
-    match trie_of(bytes) {
-        Ok(trie) => match counts_line(alloc, &trie) {
-            Ok(line) => Ok(line),
-            Err(NoMemory) => Err(Refusal::NoMemory),
-        },
-        Err(refusal) => Err(refusal),
+    let trie = trie_of(bytes)?;
+    match counts_line(alloc, &trie) {
+        Ok(line) => Ok(line),
+        Err(NoMemory) => Err(Refusal::NoMemory),
     }
 }
 
@@ -87,22 +83,18 @@ fn text_from<I: Source>(alloc: Global, from: &mut I) -> Result<Vec<u8>, Refusal>
     ensures { GivesOrNoMemory dump_of (watched (I.left from.old) (I.left from.new) (I.faults from.old) (I.faults from.new))
         (outcome_of (λ bytes. bytes.items) result) }
 {
-    match read_input(alloc, from) {
-        Ok(bytes) => text_of(alloc, bytes),
-        Err(refusal) => Err(refusal),
-    }
+    let bytes = read_input(alloc, from)?;
+    text_of(alloc, bytes)
 }
 
 /// The text of an image's rows.
 fn text_of(alloc: Global, bytes: Vec<u8>) -> Result<Vec<u8>, Refusal>
     ensures { IsOrNoMemory (dump_of bytes.items) (outcome_of (λ bytes. bytes.items) result) }
 {
-    match trie_of(bytes) {
-        Ok(trie) => match rows_text(alloc, &trie) {
-            Ok(text) => Ok(text),
-            Err(NoMemory) => Err(Refusal::NoMemory),
-        },
-        Err(refusal) => Err(refusal),
+    let trie = trie_of(bytes)?;
+    match rows_text(alloc, &trie) {
+        Ok(text) => Ok(text),
+        Err(NoMemory) => Err(Refusal::NoMemory),
     }
 }
 
@@ -132,14 +124,11 @@ fn key_row(key: Key, row: &RowRef) -> KeyRow
     requires { IsTrue (is_row (record { key = key; phrase = row.now.phrase.now; freq = row.now.freq; time = row.now.time })) }
     ensures { result ≡ record { key = key; phrase = row.now.phrase.now; freq = row.now.freq; time = row.now.time } }
 {
-    match Phrase::read(row.phrase.as_bytes()) {
-        Ok(phrase) => KeyRow {
-            key,
-            phrase,
-            freq: row.freq,
-            time: row.time,
-        },
-        Err(_) => unreachable!(),
+    KeyRow {
+        key,
+        phrase: Phrase::of(row.phrase),
+        freq: row.freq,
+        time: row.time,
     }
 }
 

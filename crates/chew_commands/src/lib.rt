@@ -7,7 +7,8 @@ mod build;
 mod command;
 mod image_rows;
 mod refusal;
+pub mod status;
 
 pub use build::build_call;
-pub use command::{Command, Words, command_of, is_run};
+pub use command::{Command, DIGITS_LIMIT, Words, command_of, is_run};
 pub use image_rows::{check_call, dump_call};

@@ -5,6 +5,7 @@ ghost use Rattle.chew_spec_program.specs.Refusal.{fault_line, refusal_line, refu
 ghost use Rattle.chew_rows.specs.Faults as row;
 ghost use Rattle.chew_commands.specs.Refusals.{image_refusal, kind_of, read_refusal, text_refusal};
 
+use crate::status;
 use arrayvec::ArrayString;
 use chew_outside::ReadFault;
 use chew_rows::{RowCause, RowsFault};
@@ -57,15 +58,15 @@ impl Refusal {
         ensures { result ≡ refusal_status (kind_of self) }
     {
         match self {
-            Refusal::WrongText { .. } => 4,
-            Refusal::WrongImage { .. } => 4,
-            Refusal::SourceFailed => 7,
-            Refusal::NoMemory => 10,
+            Refusal::WrongText { .. } => status::WRONG_SYSTEM,
+            Refusal::WrongImage { .. } => status::WRONG_SYSTEM,
+            Refusal::SourceFailed => status::SOURCE_FAILED,
+            Refusal::NoMemory => status::NO_MEMORY,
         }
     }
 
     /// The one line that is written. It takes no memory.
-    pub(crate) fn line(self) -> ArrayString<40>
+    pub(crate) fn refusal_line(self) -> ArrayString<40>
         ensures { result.bytes ≡ refusal_line (kind_of self) }
     {
         match self {

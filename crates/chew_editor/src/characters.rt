@@ -52,13 +52,11 @@ fn push_some(characters: &mut Vec<char>, character: Option<char>) -> Result<(), 
 fn character_at(pieces: &[Piece], place: usize) -> Option<char>
     ensures { result ≡ character_at pieces.now place }
 {
-    match piece_with(pieces, place) {
-        Some(piece) => character_of(
-            piece.phrase.text(),
-            place.saturating_sub(usize::from(piece.start)),
-        ),
-        None => None,
-    }
+    let piece = piece_with(pieces, place)?;
+    character_of(
+        piece.phrase.text(),
+        place.saturating_sub(usize::from(piece.start)),
+    )
 }
 
 /// The first piece that has the cell at a place.
@@ -80,14 +78,10 @@ fn has_cell(piece: &Piece, place: usize) -> bool
 fn character_of(text: &str, count: usize) -> Option<char>
     ensures { result ≡ slice_get (chars text.now) count }
 {
-    match split_character(text) {
-        Some((first, rest)) => {
-            if count == 0 {
-                Some(first)
-            } else {
-                character_of(rest, count - 1)
-            }
-        }
-        None => None,
+    let (first, rest) = split_character(text)?;
+    if count == 0 {
+        Some(first)
+    } else {
+        character_of(rest, count - 1)
     }
 }

@@ -67,10 +67,7 @@ fn key_of(cells: &[CellItem]) -> Key
     ensures { result ≡ flat_map code_in (map cell_of cells.now) }
 {
     let syllables = syllables_of(cells);
-    match Key::of(syllables.as_slice()) {
-        Some(key) => key,
-        None => unreachable!(),
-    }
+    Key::of_some(syllables.as_slice())
 }
 
 /// The syllables among the cells.

@@ -7,7 +7,7 @@ ghost use Rattle.chew_spec_dictionary.specs.History.{is_keepers};
 ghost use Rattle.chew_plain.specs.Call.{call_of};
 
 use chew_plain::Call;
-use chew_syllable::{Key, Phrase, Run, Syllable};
+use chew_syllable::{GREATEST_FREQ, Key, Phrase, Run, Syllable};
 
 /// The pair of these syllables and this text, where they are one.
 fn pair(key: &[Syllable], text: &str) -> Option<(Key, Phrase)>
@@ -37,7 +37,7 @@ pub fn learn(key: &[Syllable], text: &str, orig: u32, peak: u32) -> Option<Call>
     if orig > peak {
         return None;
     }
-    if peak > 99_999_999 {
+    if peak > GREATEST_FREQ {
         return None;
     }
     Some(Call::Learn {

@@ -138,10 +138,8 @@ impl InLayers {
     pub fn waiting_life(&self) -> Option<u64>
         ensures { result ≡ option_map (λ waiting. waiting.life) self.now.frozen }
     {
-        match &self.snapshot {
-            Some(snapshot) => Some(snapshot.life),
-            None => None,
-        }
+        let snapshot = self.snapshot.as_ref()?;
+        Some(snapshot.life)
     }
 
     /// Has the snapshot that waits merged and installed. Whether one waited.

@@ -16,17 +16,6 @@ use chew_trie_write::write_image;
 use std::alloc::Global;
 use std::sync::Arc;
 
-/// The dictionary of an image without a fault.
-fn trie_of(bytes: Vec<u8>) -> Trie
-    requires { image_place bytes.items ≡ None }
-    ensures { result ≡ rows_in bytes.items }
-{
-    match Trie::of(bytes) {
-        Ok(trie) => trie,
-        Err(_) => unreachable!(),
-    }
-}
-
 /// The map of rows in image order.
 pub fn map_of(alloc: Global, rows: &[KeyRow]) -> Result<Arc<Trie>, NoMemory>
     requires map { IsTrue (is_map rows.now) }
@@ -34,7 +23,7 @@ pub fn map_of(alloc: Global, rows: &[KeyRow]) -> Result<Arc<Trie>, NoMemory>
     ensures { IfOk result (λ map. arc_value map ≡ rows.now) }
 {
     let bytes = write_image(alloc, rows)?;
-    Ok(Arc::new(alloc, trie_of(bytes))?)
+    Ok(Arc::new(alloc, Trie::of_image(bytes))?)
 }
 
 /// The map of no rows.

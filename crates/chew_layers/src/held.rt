@@ -142,10 +142,7 @@ fn key_at(run: &[Syllable], at: Interval) -> Key
     requires few { at.len ≤ 11 }
     ensures { result ≡ codes_at run.now at }
 {
-    match Key::of(&run[at.start..at.start + at.len]) {
-        Some(key) => key,
-        None => unreachable!(),
-    }
+    Key::of_some(&run[at.start..at.start + at.len])
 }
 
 /// The greatest frequency of those of these hits that are not hidden, or 0.

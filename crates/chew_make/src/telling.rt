@@ -4,6 +4,7 @@ ghost use Rattle.chew_spec_program.specs.Refusal as spec;
 ghost use Rattle.chew_spec_program.specs.Writing.{Writes, sunk};
 ghost use Rattle.chew_make.specs.Answers.{answer_of};
 
+use chew_commands::status;
 use chew_outside::{Failed, Sink, write_all};
 use chew_syllable::NoMemory;
 
@@ -13,13 +14,13 @@ pub(crate) fn tell<O: Sink>(sink: &mut O, answer: Result<Vec<u8>, NoMemory>) -> 
 {
     match answer {
         Ok(text) => match send(sink, text.as_slice()) {
-            Ok(()) => 0,
-            Err(Failed) => 8,
+            Ok(()) => status::DONE,
+            Err(Failed) => status::SINK_FAILED,
         },
         Err(NoMemory) => {
             // the status stays where the line isn't written
             let _ = send(sink, no_memory_line().as_bytes());
-            10
+            status::NO_MEMORY
         }
     }
 }

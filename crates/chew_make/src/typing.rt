@@ -26,10 +26,7 @@ pub(crate) fn type_keys(
 {
     let mut typist = Typist::new(alloc, settings)?;
     for key in keys {
-        match typist.type_key(alloc, system, *key) {
-            Ok(next) => typist = next,
-            Err(NoMemory) => return Err(NoMemory),
-        }
+        typist = typist.type_key(alloc, system, *key)?;
     }
     Ok(typist)
 }

@@ -35,17 +35,6 @@ fn rows_together(alloc: Global, base: &Trie, layer: &Buffer) -> Result<Vec<KeyRo
     Ok(rows)
 }
 
-/// The dictionary of an image without a fault.
-fn trie_of(bytes: Vec<u8>) -> Trie
-    requires { image_place bytes.items ≡ None }
-    ensures { result ≡ rows_in bytes.items }
-{
-    match Trie::of(bytes) {
-        Ok(trie) => trie,
-        Err(_) => unreachable!(),
-    }
-}
-
 /// A new map: the rows of the base whose pair has no mark, and those of the live marks.
 pub(crate) fn merge_layer(alloc: Global, base: &Trie, layer: &Buffer) -> Result<Trie, NoMemory>
     requires few { length (overlay base.now layer.now) ≤ 200_000 }
@@ -53,5 +42,5 @@ pub(crate) fn merge_layer(alloc: Global, base: &Trie, layer: &Buffer) -> Result<
 {
     let rows = rows_together(alloc, base, layer)?;
     let bytes = write_image(alloc, rows.as_slice())?;
-    Ok(trie_of(bytes))
+    Ok(Trie::of_image(bytes))
 }

@@ -98,10 +98,7 @@ impl Grid {
         requires { IsInside self.now.cells at }
         ensures { option_copied result ≡ piece_in self.now at }
     {
-        match &self.slots[slot_of(at)] {
-            Some(piece) => Some(piece),
-            None => None,
-        }
+        self.slots[slot_of(at)].as_ref()
     }
 
     /// The piece of an interval that has one.

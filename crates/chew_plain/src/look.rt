@@ -52,10 +52,7 @@ fn found_at<'a>(pairs: &'a Pairs, run: &[Syllable], at: Interval) -> &'a [KeyRow
     requires few { at.len ≤ 11 }
     ensures { result.now ≡ rows_under pairs.now (codes_at run.now at) }
 {
-    match Key::of(&run[at.start..at.start + at.len]) {
-        Some(key) => pairs.under(&key),
-        None => unreachable!(),
-    }
+    pairs.under(&Key::of_some(&run[at.start..at.start + at.len]))
 }
 
 /// The rows as hits of an interval, in the same order.

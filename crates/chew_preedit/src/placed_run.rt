@@ -70,8 +70,5 @@ impl Default for PlacedRun {
 fn no_syllables() -> Run
     ensures { result ≡ [] }
 {
-    match Run::of(&[]) {
-        Some(run) => run,
-        None => unreachable!(),
-    }
+    Run::of_few(&[])
 }

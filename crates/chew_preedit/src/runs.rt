@@ -28,10 +28,8 @@ impl Preedit {
         ensures { result ≡ run_at self.now.cells place }
     {
         let runs = self.runs();
-        match run_with(runs.as_slice(), place) {
-            Some(run) => Some(run.copy()),
-            None => None,
-        }
+        let run = run_with(runs.as_slice(), place)?;
+        Some(run.copy())
     }
 
     /// The breaks inside a run, by their places in the run.
@@ -83,10 +81,7 @@ fn leading_run(cells: &[CellItem]) -> Run
     ensures { result ≡ leading_codes (map cell_of cells.now) }
 {
     let syllables = leading_syllables(cells);
-    match Run::of(syllables.as_slice()) {
-        Some(run) => run,
-        None => unreachable!(),
-    }
+    Run::of_few(syllables.as_slice())
 }
 
 /// The same, as a list.

@@ -92,10 +92,8 @@ impl Retold {
         if !is_of_user(call) {
             return Err(ReplayFault::Differs);
         }
-        match self.make(call) {
-            Ok(_reply) => Ok(()),
-            Err(fault) => Err(fault),
-        }
+        let _reply = self.make(call)?;
+        Ok(())
     }
 
     /// Reads one entry more: makes its call where it may change the map, which look-ups, freezes and installs don't.
@@ -192,13 +190,12 @@ impl Retold {
         if !is_of_user(&look) {
             return Ok(false);
         }
-        match self.make(&look) {
-            Ok(Reply::Rows(hits)) => {
+        match self.make(&look)? {
+            Reply::Rows(hits) => {
                 let len = key.len();
                 Ok(hits.list().iter().any(|hit| is_hit_of(hit, len, row)))
             }
-            Ok(_) => Ok(false),
-            Err(fault) => Err(fault),
+            _ => Ok(false),
         }
     }
 

@@ -7,7 +7,7 @@ ghost use Rattle.chew_rows.specs.Faults.{cause_of};
 use crate::cause::RowCause;
 use crate::fields::first_field;
 use arrayvec::ArrayVec;
-use chew_syllable::{Key, Syllable, read_bopomofo};
+use chew_syllable::{KEY_LIMIT, Key, Syllable, read_bopomofo};
 
 /// The key of the syllables that the fields of a text are, for a phrase of so many characters.
 pub(crate) fn read_key(text: &[u8], characters: usize) -> Result<Key, RowCause>
@@ -16,7 +16,7 @@ pub(crate) fn read_key(text: &[u8], characters: usize) -> Result<Key, RowCause>
     ensures ok { IfOk result (λ key. key_for characters (codes_of_text text.now) ≡ Ok key) }
     ensures err { IfErr result (λ cause. key_for characters (codes_of_text text.now) ≡ Err (cause_of cause)) }
 {
-    let mut syllables: ArrayVec<Syllable, 11> = ArrayVec::new();
+    let mut syllables: ArrayVec<Syllable, KEY_LIMIT> = ArrayVec::new();
     let mut rest = text;
     'reading: while let Some((field, behind)) = first_field(rest) {
         match read_bopomofo(field) {
@@ -30,10 +30,7 @@ pub(crate) fn read_key(text: &[u8], characters: usize) -> Result<Key, RowCause>
     if syllables.len() != characters {
         return Err(RowCause::Lengths);
     }
-    match Key::of(syllables.as_slice()) {
-        Some(key) => Ok(key),
-        None => unreachable!(),
-    }
+    Ok(Key::of_some(syllables.as_slice()))
 }
 
 /// The cause where there are too many syllables before these fields.

@@ -28,14 +28,16 @@ pub record Asks (start : Point) (who : ℕ) (calls : List Call) (before now : Li
   pub made : Made start before now who asked heard
 
 -- all calls of a key were made, it left this editor, and its line was printed
-pub record Answered (system : List Row) (start : Point) (who : ℕ) (pending : Pending) (editor : Editor) (before now : List Entry) (text longer : List ℕ) : Type 0 where
+pub record Answered (system : List Row) (start : Point) (who : ℕ) (pending : Pending) (editor : Editor) (before now : List Entry)
+    (text longer : List ℕ) : Type 0 where
   pub heard : List Reply
   pub made : Made start before now who (calls_of pending) heard
   pub left : editor ≡ (finish system pending heard).editor
   pub printed : longer ≡ text ++ line_text (finish system pending heard).line
 
 -- the key was handled: it made its calls, its line was printed, and it left this editor
-pub record Turns (system : List Row) (start : Point) (who : ℕ) (key : KeyStroke) (had editor : Editor) (before now : List Entry) (text longer : List ℕ) : Type 0 where
+pub record Turns (system : List Row) (start : Point) (who : ℕ) (key : KeyStroke) (had editor : Editor) (before now : List Entry)
+    (text longer : List ℕ) : Type 0 where
   pub calls : List Call
   pub heard : List Reply
   pub line : Line

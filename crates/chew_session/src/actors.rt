@@ -3,7 +3,7 @@
 ghost use Rattle.std.specs.Prelude.{◌≡◌, ◌≤◌, ◌+◌, ◌||◌, [], ◌∷◌, drop, length, map, not, true};
 ghost use Rattle.std.specs.List.{list_any};
 ghost use Rattle.chew_spec_disk.specs.Disk.{IsDisk, Later};
-ghost use Rattle.chew_spec_cell.specs.Pass.{new_passes};
+ghost use Rattle.chew_spec_cell.specs.Pass.{fresh_pass, new_passes};
 ghost use Rattle.chew_spec_rounds.specs.InStep.{IsInStep};
 ghost use Rattle.chew_spec_rounds.specs.Session.{IsSession as NeverLoses};
 ghost use Rattle.chew_spec_session.specs.LastRounds.{disk_faults, is_no_memory};
@@ -92,7 +92,7 @@ pub fn run_actors<R: Wait + Threads + Sync, L: Lexicon + Sync, D: Disk, G: Gate>
     requires contexts { length actors.items ≤ 16 }
     requires typing { MayType opened.shared settings.now actors.items }
     requires rounds { rounds ≤ 64 }
-    requires keeper { opened.keeper ≡ record { cell = opened.shared; who = 0; seen = [] } }
+    requires keeper { opened.keeper ≡ fresh_pass opened.shared 0 }
     requires passes { opened.keeper ∷ opened.passes.items ≡ new_passes opened.shared (length actors.items + 1) }
     requires seats { opened.shared.seats ≡ length actors.items + 1 }
     ensures session { IsSession (basis_of (L.rows system.now) settings.now opened.shared) (keys_of_all actors.items) rounds checkpointer.seq (ended_of result) }

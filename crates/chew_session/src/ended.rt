@@ -1,8 +1,9 @@
 use crate::context_end::ContextEnd;
+use crate::worker::SESSION_ROUNDS_LIMIT;
 use arrayvec::ArrayVec;
 use chew_checkpoint::Round;
 use chew_plain::Entry;
-use chew_script::Text;
+use chew_script::{CONTEXTS_LIMIT, Text};
 use std::alloc::Global;
 use std::default::MadeWith;
 
@@ -12,9 +13,9 @@ pub struct Ended {
     /// All calls that were made, in the order of their turns.
     pub journal: Vec<Entry>,
     /// How each context ended, in the order of their numbers.
-    pub contexts: ArrayVec<ContextEnd, 16, Global>,
+    pub contexts: ArrayVec<ContextEnd, CONTEXTS_LIMIT, Global>,
     /// What each round answered.
-    pub rounds: ArrayVec<Round, 66>,
+    pub rounds: ArrayVec<Round, SESSION_ROUNDS_LIMIT>,
     /// The place of the first of the last rounds, those that were made once the contexts had ended.
     pub last_from: u32,
     /// Whether memory was wanting for a key or a last round.
@@ -22,7 +23,7 @@ pub struct Ended {
 }
 
 /// The contexts' ends, in the order of their numbers.
-pub(crate) type ContextEnds = ArrayVec<ContextEnd, 16, Global>;
+pub(crate) type ContextEnds = ArrayVec<ContextEnd, CONTEXTS_LIMIT, Global>;
 
 /// The end of a context that handled no key, since some end has to fill unused places.
 impl MadeWith<Global> for ContextEnd {

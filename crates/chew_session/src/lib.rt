@@ -20,3 +20,4 @@ pub use actor::Actor;
 pub use actors::run_actors;
 pub use context_end::ContextEnd;
 pub use ended::Ended;
+pub use worker::SESSION_ROUNDS_LIMIT;

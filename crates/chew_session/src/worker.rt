@@ -9,19 +9,20 @@ ghost use Rattle.chew_session.specs.Saving.{MakeAll, Makes, stage};
 use arrayvec::ArrayVec;
 use chew_checkpoint::{Checkpointer, Round};
 use chew_outside::{Disk, Gate};
+use chew_script::ROUNDS_LIMIT;
 use chew_shared::{KeeperPass, Shared};
 use std::alloc::Global;
 use std::sync::Wait;
 
 /// How many rounds a session has at most: those of its worker, and two last ones.
-pub(crate) const ROUNDS: usize = 66;
+pub const SESSION_ROUNDS_LIMIT: usize = ROUNDS_LIMIT as usize + 2;
 
 /// The keeper at work: what it knows of the slots, its pass, and what the rounds so far answered.
 #[derive(Drop)]
 pub(crate) struct Worker {
     pub(crate) checkpointer: Checkpointer,
     pub(crate) keeper: KeeperPass,
-    pub(crate) made: ArrayVec<Round, 66>,
+    pub(crate) made: ArrayVec<Round, SESSION_ROUNDS_LIMIT>,
 }
 
 impl Worker {

@@ -13,4 +13,4 @@ mod values;
 pub use fault::{SettingCause, SettingsFault};
 pub use keys::SettingName;
 pub use reader::{SETTINGS_LIMIT, read_settings};
-pub use settings::Settings;
+pub use settings::{PAGE_LIMIT, STANDARD_CAP, Settings};

@@ -5,6 +5,12 @@ ghost use Rattle.chew_spec_editor.specs.Settings.{standard_settings};
 use chew_layouts::Kind;
 use std::marker::Model;
 
+/// The number of pairs from which on no new one is added, where nothing else is said.
+pub const STANDARD_CAP: u32 = 65_536;
+
+/// The most candidates of a page, each with a selection key.
+pub const PAGE_LIMIT: usize = 10;
+
 /// What the user may set.
 #[derive(Debug, Drop)]
 pub struct Settings {
@@ -15,7 +21,7 @@ pub struct Settings {
     /// How many candidates a page of the window has, 1 to 10.
     pub page: u8,
     /// The keys that pick a candidate of the page: ten different printable bytes of ASCII, none the space.
-    pub selection: [u8; 10],
+    pub selection: [u8; PAGE_LIMIT],
     /// Whether Esc empties the buffer.
     pub escape_clears: bool,
     /// Whether what is committed is learnt.
@@ -65,7 +71,7 @@ impl Settings {
             selection: *b"1234567890",
             escape_clears: false,
             learn: true,
-            cap: 65_536,
+            cap: STANDARD_CAP,
         }
     }
 

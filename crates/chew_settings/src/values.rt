@@ -8,7 +8,7 @@ ghost use Rattle.chew_spec_settings.specs.Values as spec;
 ghost use Rattle.chew_settings.specs.Faults.{told, told_by};
 
 use crate::fault::SettingCause;
-use crate::settings::Settings;
+use crate::settings::{PAGE_LIMIT, Settings};
 use chew_layouts::Kind;
 use chew_syllable::{RUN_LIMIT, USER_ROWS_LIMIT};
 use toml::{Table, Value};
@@ -38,13 +38,13 @@ pub(crate) fn page_in(table: &Table) -> Result<u8, SettingCause>
     ensures { told result ≡ spec.page_in (table_view table.now) }
 {
     match value_at(table, "page") {
-        Some(value) => small_number(value, 10),
+        Some(value) => small_number(value, PAGE_LIMIT as u8),
         None => Ok(Settings::standard().page),
     }
 }
 
 /// The selection keys that a table sets, or the standard ones.
-pub(crate) fn selection_in(table: &Table) -> Result<[u8; 10], SettingCause>
+pub(crate) fn selection_in(table: &Table) -> Result<[u8; PAGE_LIMIT], SettingCause>
     ensures { told result ≡ spec.selection_in (table_view table.now) }
 {
     match value_at(table, "selection") {
@@ -78,7 +78,7 @@ pub(crate) fn cap_in(table: &Table) -> Result<u32, SettingCause>
     ensures { told result ≡ spec.cap_in (table_view table.now) }
 {
     match value_at(table, "cap") {
-        Some(value) => number_up_to(value, USER_ROWS_LIMIT),
+        Some(value) => integer_up_to(value, USER_ROWS_LIMIT),
         None => Ok(Settings::standard().cap),
     }
 }
@@ -129,17 +129,15 @@ fn truth(value: &Value) -> Result<bool, SettingCause>
 
 /// A number of at least 1 and at most this, which is a byte.
 fn small_number(value: &Value, greatest: u8) -> Result<u8, SettingCause>
-    ensures { told result ≡ spec.number_up_to greatest (view value.now) }
+    ensures { told result ≡ spec.integer_up_to greatest (view value.now) }
 {
-    match number_up_to(value, u32::from(greatest)) {
-        Ok(number) => Ok(number as u8),
-        Err(cause) => Err(cause),
-    }
+    let number = integer_up_to(value, u32::from(greatest))?;
+    Ok(number as u8)
 }
 
 /// A number of at least 1 and at most this.
-fn number_up_to(value: &Value, greatest: u32) -> Result<u32, SettingCause>
-    ensures value { told result ≡ spec.number_up_to greatest (view value.now) }
+fn integer_up_to(value: &Value, greatest: u32) -> Result<u32, SettingCause>
+    ensures value { told result ≡ spec.integer_up_to greatest (view value.now) }
     ensures within { IfOk result (λ number. number ≤ greatest) }
 {
     match value.as_integer() {
@@ -150,7 +148,7 @@ fn number_up_to(value: &Value, greatest: u32) -> Result<u32, SettingCause>
 
 /// The number, where it is at least 1 and at most this.
 fn in_range(number: i64, greatest: u32) -> Result<u32, SettingCause>
-    ensures value { told result ≡ spec.number_up_to greatest (integer number) }
+    ensures value { told result ≡ spec.integer_up_to greatest (integer number) }
     ensures within { IfOk result (λ number. number ≤ greatest) }
 {
     if number < 1 || number > i64::from(greatest) {
@@ -160,7 +158,7 @@ fn in_range(number: i64, greatest: u32) -> Result<u32, SettingCause>
 }
 
 /// Ten different bytes that may be selection keys.
-fn selection_value(value: &Value) -> Result<[u8; 10], SettingCause>
+fn selection_value(value: &Value) -> Result<[u8; PAGE_LIMIT], SettingCause>
     ensures { told result ≡ spec.selection_value (view value.now) }
 {
     match value.as_str() {
@@ -170,13 +168,13 @@ fn selection_value(value: &Value) -> Result<[u8; 10], SettingCause>
 }
 
 /// The bytes, where they are ten different ones that may be selection keys.
-fn ten_keys(bytes: &[u8]) -> Result<[u8; 10], SettingCause>
+fn ten_keys(bytes: &[u8]) -> Result<[u8; PAGE_LIMIT], SettingCause>
     ensures { told result ≡ spec.selection_value (string bytes.now) }
 {
     if !are_selection_keys(bytes) || !are_distinct(bytes) {
         return Err(SettingCause::Range);
     }
-    match <[u8; 10]>::try_from(bytes) {
+    match <[u8; PAGE_LIMIT]>::try_from(bytes) {
         Ok(keys) => Ok(keys),
         Err(_) => Err(SettingCause::Range),
     }

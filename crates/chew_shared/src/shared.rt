@@ -1,7 +1,7 @@
 ghost use Rattle.std.specs.Prelude.{◌≡◌, ◌+◌, ◌≤◌, [], ◌∷◌, length, map, All, Contains, IfOk, IsTrue};
 ghost use Rattle.chew_spec_dictionary.specs.History.{is_legal, start_of};
 ghost use Rattle.chew_spec_layers.specs.Standing.{StandForMap};
-ghost use Rattle.chew_spec_cell.specs.Pass.{new_passes};
+ghost use Rattle.chew_spec_cell.specs.Pass.{fresh_pass, new_passes};
 ghost use Rattle.chew_spec_cell.specs.Sight.{HasSeen, longer};
 ghost use Rattle.chew_spec_shared.specs.SharedCalls.{IsOf};
 
@@ -45,7 +45,7 @@ impl Shared {
         requires cap { cap ≤ 200_000 }
         ensures start { IfOk result (λ opened. opened.shared.start ≡ record { pairs = base; life = life; cap = cap }) }
         ensures seats { IfOk result (λ opened. opened.shared.seats ≡ contexts + 1) }
-        ensures keeper { IfOk result (λ opened. opened.keeper ≡ record { cell = opened.shared; who = 0; seen = [] }) }
+        ensures keeper { IfOk result (λ opened. opened.keeper ≡ fresh_pass opened.shared 0) }
         ensures passes { IfOk result (λ opened. opened.keeper ∷ opened.passes.items ≡ new_passes opened.shared (contexts + 1)) }
     {
         let base = Arc::new(alloc, base)?;

@@ -1,5 +1,5 @@
 ghost use Rattle.std.specs.Prelude.{◌≡◌, ◌+◌, ◌≤◌, [], ◌∷◌, All, IfOk, None};
-ghost use Rattle.chew_spec_cell.specs.Pass.{new_passes};
+ghost use Rattle.chew_spec_cell.specs.Pass.{fresh_pass, new_passes};
 ghost use Rattle.chew_spec_image.specs.Reading.{image_place, rows_in};
 ghost use Rattle.chew_spec_shared.specs.SharedCalls.{IsOf};
 
@@ -9,17 +9,6 @@ use chew_trie_read::Trie;
 use chew_trie_write::write_image;
 use std::alloc::Global;
 
-/// The dictionary of an image without a fault.
-fn trie_of(image: Vec<u8>) -> Trie
-    requires { image_place image.items ≡ None }
-    ensures { result ≡ rows_in image.items }
-{
-    match Trie::of(image) {
-        Ok(trie) => trie,
-        Err(_) => unreachable!(),
-    }
-}
-
 /// The empty map, shared between a keeper and so many contexts.
 #[tactic(auto, using(crate::proofs::Passes::ours_behind))]
 pub fn open_empty(alloc: Global, cap: u32, contexts: u32) -> Result<Opened, NoMemory>
@@ -27,11 +16,11 @@ pub fn open_empty(alloc: Global, cap: u32, contexts: u32) -> Result<Opened, NoMe
     requires cap { cap ≤ 200_000 }
     ensures start { IfOk result (λ opened. opened.shared.start ≡ record { pairs = []; life = 0; cap = cap }) }
     ensures seats { IfOk result (λ opened. opened.shared.seats ≡ contexts + 1) }
-    ensures keeper { IfOk result (λ opened. opened.keeper ≡ record { cell = opened.shared; who = 0; seen = [] }) }
+    ensures keeper { IfOk result (λ opened. opened.keeper ≡ fresh_pass opened.shared 0) }
     ensures passes { IfOk result (λ opened. opened.keeper ∷ opened.passes.items ≡ new_passes opened.shared (contexts + 1)) }
     ensures ours { IfOk result (λ opened. All (λ p. IsOf opened.shared p) opened.passes.items) }
 {
-    let base = trie_of(write_image(alloc, &[])?);
+    let base = Trie::of_image(write_image(alloc, &[])?);
     let opened = Shared::open(alloc, base, 0, cap, contexts)?;
     Ok(opened)
 }

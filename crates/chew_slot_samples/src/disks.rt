@@ -76,8 +76,6 @@ fn has<D: Disk>(alloc: Global, disk: &mut D, slot: u8, bytes: &[u8]) -> Result<b
     ensures same { D.told disk.old ≡ true → (each : ℕ) → (D.state disk.new).reads each ≡ (D.state disk.old).reads each }
     ensures cause { HasCause (D.faults disk.old) (D.faults disk.new) (disk_failed result) }
 {
-    match bytes_of(alloc, disk, slot) {
-        Ok(held) => Ok(held.as_slice() == bytes),
-        Err(fault) => Err(fault),
-    }
+    let held = bytes_of(alloc, disk, slot)?;
+    Ok(held.as_slice() == bytes)
 }

@@ -7,6 +7,7 @@ ghost use Rattle.chew_slot_samples.specs.Known.{empty_image, learnt_image, learn
 use crate::known::{PLAIN_SLOT, patched};
 use chew_slots::Found;
 use chew_syllable::NoMemory;
+use chew_trie_image::EMPTY_IMAGE;
 use std::alloc::Global;
 
 /// Where the image begins in a slot, and in it the row's frequency and its time.
@@ -15,13 +16,6 @@ const IMAGE_PLACE: usize = 33;
 const FREQ_PLACE: usize = 68;
 
 const TIME_PLACE: usize = 80;
-
-/// The image of no rows.
-#[rattlefmt::skip]
-const EMPTY_IMAGE: [u8; 36] = [
-    b'C', b'H', b'E', b'W', b'T', b'R', b'I', b'1', 0, 0, 0, 0, 1, 0, 0, 0, 0, 0, 0, 0, 0, 0, 0, 0,
-    1, 0, 0, 0, 0, 0, 0, 0, 0, 0, 0, 0,
-];
 
 /// A user's map.
 #[derive(Clone, Copy, Debug, PartialEq, Eq)]

@@ -11,7 +11,7 @@ ghost use Rattle.chew_slot_samples.specs.Answers.{IsFine, IsOf, step_failed};
 use crate::maps::{Learnt, image_of, is_found, life_of};
 use chew_outside::Disk;
 use chew_slots::{Keep, SlotFault, body_of, recover};
-use chew_syllable::NoMemory;
+use chew_syllable::{NoMemory, USER_ROWS_LIMIT};
 use chew_trie_read::Trie;
 use std::alloc::Global;
 
@@ -50,7 +50,7 @@ pub fn save_map<D: Disk>(
     if seq == u64::MAX {
         return Err(SaveFault::Spent);
     }
-    if map.total() > 200_000 {
+    if map.total() > USER_ROWS_LIMIT {
         return Err(SaveFault::TooMany);
     }
     let Ok(body) = body_of(alloc, seq + 1, life, map) else {

@@ -1,6 +1,6 @@
 -- Which format an open slot has, and what it is read as then.
 use Rattle.std.specs.Prelude.{◌≡◌, ℕ, true, false, bytes_eq, List, take, drop, cond, Option, Some, None, Result, Err, IfNone, IfSome}
-use Rattle.std.proofs.Common.{ap, ap₂, ◌∙◌}
+use Rattle.std.proofs.Common.{ap, ap₂}
 use Rattle.chew_spec_image.specs.ReadNodes.{unless_fault}
 use Rattle.chew_spec_image.specs.Reading.{image_reading}
 use Rattle.chew_spec_slots.specs.Reading.{digest_fault, image_in, plain_fault, saved_as, saved_in}

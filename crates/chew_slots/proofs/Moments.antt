@@ -1,6 +1,6 @@
 -- How far the moment rises in a call, and where a slot is read.
-use Rattle.std.specs.Prelude.{◌≡◌, ◌≢◌, ℕ, ◌+◌, ◌≤◌, List, [], ◌∷◌, length, Option, None, Result, Ok, Err}
-use Rattle.std.proofs.Common.{arith, sym, ap, ◌∙◌, ⊎_elim}
+use Rattle.std.specs.Prelude.{◌≡◌, ℕ, ◌+◌, ◌≤◌, List, [], ◌∷◌, length, Result, Ok, Err}
+use Rattle.std.proofs.Common.{arith, ap, ⊎_elim}
 use Rattle.chew_spec_outside.specs.Faults.{risen}
 use Rattle.chew_spec_disk.specs.Disk.{DiskState, Later, Stays}
 use Rattle.chew_spec_disk.proofs.Moments.{later-chain}

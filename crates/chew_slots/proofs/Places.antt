@@ -2,11 +2,11 @@
 use Rattle.std.specs.Prelude.{◌≡◌, ℕ, zero, suc, ◌+◌, ◌-◌, ◌*◌, ◌≤◌, min, cond, Bool, true, false, ◌&&◌, ◌||◌, ◌==◌, nat_le, nat_lt, List, [], ◌∷◌, ◌++◌, length, drop, Option, Some, None, Result, Ok, Err, refl}
 use Rattle.std.specs.List.{starts_with, zip}
 use Rattle.std.specs.Result.{result_err}
-use Rattle.std.proofs.Common.{arith, nat_eq, sym, ap, ◌∙◌, subst}
+use Rattle.std.proofs.Common.{arith, nat_eq, ap, subst}
 use Rattle.chew_spec_syllable.specs.Row.{Row, greatest_freq}
 use Rattle.chew_spec_syllable.specs.Syllable.{is_code}
-use Rattle.chew_spec_image.specs.Fields.{Counts, Node, RowFields, magic, node_at, nodes_at, row_at, rows_at}
-use Rattle.chew_spec_image.specs.ReadNodes.{Due, NodesRead, at_root, checked, due_under, node_fault, past_node, read_all_nodes, read_nodes, root_fault, unless_fault, with_front}
+use Rattle.chew_spec_image.specs.Fields.{Counts, Node, RowFields, magic, node_at, nodes_at, rows_at}
+use Rattle.chew_spec_image.specs.ReadNodes.{Due, NodesRead, at_root, checked, due_under, node_fault, past_node, read_nodes, root_fault, unless_fault, with_front}
 use Rattle.chew_spec_image.specs.ReadRows.{RowsRead, past_row, phrase_fits, phrase_in, read_rows, row_fault, row_of}
 use Rattle.chew_spec_image.specs.Image.{rows_limit}
 use Rattle.chew_spec_image.specs.Reading.{at_rows, counts_fault, counts_in, header_fault, image_end, image_place, image_reading, keys_due, rows_for, rows_place, text_place}

@@ -1,5 +1,5 @@
 -- What recovery answers.
-use Rattle.std.specs.Prelude.{◌≡◌, ℕ, Bool, true, false, List, Option, None, Result, Ok, Err}
+use Rattle.std.specs.Prelude.{◌≡◌, ℕ, Bool, true, false, List, None, Result, Ok, Err}
 use Rattle.chew_spec_slots.specs.Keep.{Keep as KeepState}
 use Rattle.chew_spec_slots.specs.Reading.{is_surely_shut, slot_reading}
 use Rattle.chew_spec_slots.specs.Recovery.{Recovery, Recovered, refusal, unless_refused}

@@ -1,5 +1,5 @@
 -- What the bytes of a slot hold, as the code keeps it.
-use Rattle.std.specs.Prelude.{◌≡◌, ℕ, List, Option, Some, None}
+use Rattle.std.specs.Prelude.{◌≡◌, Option, Some, None}
 use Rattle.chew_spec_slots.specs.Reading.{SlotReading, Shut, Open, Faulty}
 use Rattle.chew_spec_slots.specs.Slot.{Saved}
 use Rattle.chew_slots.specs.declared.stored.StoredFault.{StoredFault}

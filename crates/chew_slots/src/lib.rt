@@ -17,4 +17,5 @@ pub use body::body_of;
 pub use fault::SlotFault;
 pub use keep::Keep;
 pub use recovery::{Found, recover};
+pub use slot_read::LENGTH_LIMIT;
 pub use steps::StepFault;

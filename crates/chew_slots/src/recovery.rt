@@ -14,14 +14,9 @@ use crate::slot_read::{SlotRead, read_slot};
 use crate::stored::Stored;
 use crate::{Keep, SlotFault};
 use chew_outside::Disk;
+use chew_trie_image::EMPTY_IMAGE;
 use chew_trie_read::Trie;
 use std::alloc::Global;
-
-/// The image of no rows.
-const EMPTY_IMAGE: [u8; 36] = [
-    b'C', b'H', b'E', b'W', b'T', b'R', b'I', b'1', 0, 0, 0, 0, 1, 0, 0, 0, 0, 0, 0, 0, 0, 0, 0, 0,
-    1, 0, 0, 0, 0, 0, 0, 0, 0, 0, 0, 0,
-];
 
 /// The user's map and its life, and what is known of the slots.
 #[derive(Drop)]
@@ -52,14 +47,8 @@ pub fn recover<D: Disk>(alloc: Global, disk: &mut D) -> Result<Found, SlotFault>
     ensures left { D.told disk.old ≡ true → IsSettled (D.state disk.old) 0 → IsSettled (D.state disk.old) 1 →
         IfOk result (λ found. left_state found.keep (D.state disk.new) ≡ None) }
 {
-    let zero = match read_slot(alloc, disk, 0) {
-        Ok(read) => read,
-        Err(fault) => return Err(fault),
-    };
-    let one = match read_slot(alloc, disk, 1) {
-        Ok(read) => read,
-        Err(fault) => return Err(fault),
-    };
+    let zero = read_slot(alloc, disk, 0)?;
+    let one = read_slot(alloc, disk, 1)?;
     newer(alloc, zero, one)
 }
 
@@ -110,12 +99,8 @@ fn nothing(alloc: Global, zero_shut: bool, one_shut: bool) -> Result<Found, Slot
     ensures state { IfOk result (λ found. checkpoint_of None ≡ record { life = found.life; rows = found.map }) }
     ensures memory { IfErr result (λ fault. fault ≡ SlotFault.NoMemory) }
 {
-    let map = match empty_map(alloc) {
-        Ok(map) => map,
-        Err(fault) => return Err(fault),
-    };
     Ok(Found {
-        map,
+        map: empty_map(alloc)?,
         life: 0,
         keep: Keep::of_none(zero_shut, one_shut),
     })
@@ -129,8 +114,5 @@ fn empty_map(alloc: Global) -> Result<Trie, SlotFault>
         Ok(image) => image,
         Err(_) => return Err(SlotFault::NoMemory),
     };
-    match Trie::of(image) {
-        Ok(map) => Ok(map),
-        Err(_) => unreachable!(),
-    }
+    Ok(Trie::of_image(image))
 }

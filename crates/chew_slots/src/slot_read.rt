@@ -14,8 +14,8 @@ use crate::stored::{Stored, StoredFault, stored_in};
 use chew_outside::Disk;
 use std::alloc::Global;
 
-/// The most bytes of a slot.
-const LENGTH_LIMIT: u64 = 1 << 28;
+/// The most bytes of a slot, 256 MiB.
+pub const LENGTH_LIMIT: u64 = 1 << 28;
 
 /// A slot that isn't refused: its checkpoint where its gate is open, and whether the gate is surely shut.
 #[derive(Drop)]
@@ -38,10 +38,8 @@ pub(crate) fn read_slot<D: Disk>(
     ensures calls { D.told disk.old ≡ true → (D.state disk.new).moment ≤ (D.state disk.old).moment + reading_calls ((D.state disk.old).reads slot) }
     ensures reads { (bytes : List ℕ) × AreTold (D.told disk.old) ((D.state disk.old).reads slot) bytes × ReadsAs slot bytes result }
 {
-    match read_bytes(alloc, disk, slot) {
-        Ok(bytes) => slot_in(alloc, slot, bytes.as_slice()),
-        Err(fault) => Err(fault),
-    }
+    let bytes = read_bytes(alloc, disk, slot)?;
+    slot_in(alloc, slot, bytes.as_slice())
 }
 
 // What these bytes are as a slot.

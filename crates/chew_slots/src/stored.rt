@@ -13,7 +13,7 @@ use std::alloc::Global;
 use std::marker::Model;
 
 /// Where the image tells how many rows it has.
-const ROWS_PLACE: u64 = 41;
+const ROWS_PLACE: u64 = HEAD_LEN as u64 + 8;
 
 /// A checkpoint: its number, the map and the map's life.
 #[derive(Drop)]
@@ -49,10 +49,7 @@ pub(crate) fn stored_in(alloc: Global, bytes: &[u8]) -> Result<Option<Stored>, S
     if !is_open(bytes) {
         return Ok(None);
     }
-    match open_in(alloc, bytes) {
-        Ok(stored) => Ok(Some(stored)),
-        Err(fault) => Err(fault),
-    }
+    Ok(Some(open_in(alloc, bytes)?))
 }
 
 // The same of an open slot.
@@ -76,10 +73,7 @@ fn with_image(alloc: Global, bytes: &[u8]) -> Result<Stored, StoredFault>
     ensures err { IfErr result (λ fault. TellsFaulty (as_open (saved_as bytes.now (image_reading (image_in bytes.now)))) fault) }
 {
     let end = HEAD_LEN + image_len(bytes) as usize;
-    let map = match map_in(alloc, &bytes[HEAD_LEN..end]) {
-        Ok(map) => map,
-        Err(fault) => return Err(fault),
-    };
+    let map = map_in(alloc, &bytes[HEAD_LEN..end])?;
     if map.total() > USER_ROWS_LIMIT {
         return Err(StoredFault::Damaged { place: ROWS_PLACE });
     }

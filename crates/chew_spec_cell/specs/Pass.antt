@@ -16,7 +16,11 @@ pub record Pass : Type 0 where
   pub who : ℕ
   pub seen : List Entry
 
--- the first passes of a new cell, in the order of their numbers, which have seen nothing
+-- the pass of a number before its holder has seen anything
+abbrev pub fresh_pass : Cell → ℕ → Pass
+fresh_pass cell who = record { cell = cell; who = who; seen = [] }
+
+-- the first passes of a new cell, in the order of their numbers
 abbrev pub new_passes : Cell → ℕ → List Pass
 new_passes cell zero = []
-new_passes cell (suc count) = new_passes cell count ++ record { cell = cell; who = count; seen = [] } ∷ []
+new_passes cell (suc count) = new_passes cell count ++ fresh_pass cell count ∷ []

@@ -22,7 +22,8 @@ pub record IsNotWritten (keep : Keep) (disk : DiskState) (keep_then : Keep) (dis
   pub chances : AlwaysMightLeave disk.moment disk_then.moment disk_then (RecoversToOld keep disk)
 
 -- writing: at every moment recovery gives the state that counts, the one that was left, or the one being written
-pub record WritesCheckpoint {T E : Type 0} (keep : Keep) (disk : DiskState) (keep_then : Keep) (disk_then : DiskState) (saved : Saved) (answer : Result T E) : Type 0 where
+pub record WritesCheckpoint {T E : Type 0} (keep : Keep) (disk : DiskState) (keep_then : Keep) (disk_then : DiskState) (saved : Saved)
+    (answer : Result T E) : Type 0 where
   pub fits : Fits keep_then disk_then
   pub later : Later disk disk_then
   pub moments : AlwaysLeft disk.moment disk_then (λ zero one. RecoversToOldOrLeft keep disk zero one ⊎ RecoversTo saved.checkpoint zero one)

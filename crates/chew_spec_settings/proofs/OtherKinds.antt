@@ -3,7 +3,7 @@ use Rattle.std.proofs.Common.{◌≡◌, ◌↔◌, ℕ, pos, negsuc, Bool, true
 use Rattle.std.specs.Option.{option_map_or}
 use Rattle.toml.specs.Data.{Data, string, integer, float, boolean, datetime, array, table, as_bool, as_integer, as_str}
 use Rattle.chew_spec_settings.specs.Fault.{Kind, Range}
-use Rattle.chew_spec_settings.specs.Values.{layout_named, layout_value, number_up_to, selection_value, truth}
+use Rattle.chew_spec_settings.specs.Values.{layout_named, layout_value, integer_up_to, selection_value, truth}
 
 no_kind : {V : Type 0} (test : Bool) (value : V) → cond test (Ok value) (Err Range) ≡ Err Kind → ⊥
 no_kind true value e = absurd cc
@@ -13,7 +13,7 @@ no_kind_found : {V : Type 0} (found : Option V) → option_map_or Ok found (Err 
 no_kind_found None e = absurd cc
 no_kind_found (Some value) e = absurd cc
 
-pub number_kind : (greatest : ℕ) (value : Data) → (number_up_to greatest value ≡ Err Kind) ↔ (as_integer value ≡ None)
+pub number_kind : (greatest : ℕ) (value : Data) → (integer_up_to greatest value ≡ Err Kind) ↔ (as_integer value ≡ None)
 number_kind greatest (string s) = (λ e. refl, λ e. refl)
 number_kind greatest (integer (pos n)) = (λ e. absurd (no_kind _ n e), λ e. absurd cc)
 number_kind greatest (integer (negsuc n)) = (λ e. absurd cc, λ e. absurd cc)

@@ -10,7 +10,7 @@ use Rattle.chew_spec_editor.specs.Settings.{Settings, standard_settings}
 use Rattle.chew_spec_settings.specs.Fault.{SettingCause, SettingsFault, Size, Toml, Unknown}
 use Rattle.chew_spec_settings.specs.Name.{Layout, Buffer, Page, Selection, EscapeClears, Learn, Cap, Other, setting_word}
 use Rattle.chew_spec_settings.specs.SettingsText.{are_settings, at_fault, settings_in, settings_in_table, settings_limit, settings_of, table_in, with_setting}
-use Rattle.chew_spec_settings.specs.Values.{buffer_in, cap_in, escape_clears_in, layout_in, learn_in, number_up_to, page_in, selection_in, selection_value}
+use Rattle.chew_spec_settings.specs.Values.{buffer_in, cap_in, escape_clears_in, layout_in, learn_in, integer_up_to, page_in, selection_in, selection_value}
 
 -- the settings have the values that were told one by one
 record Have (layout : Result LayoutKind SettingCause) (buffer page : Result ℕ SettingCause) (selection : Result (List ℕ) SettingCause)
@@ -67,7 +67,7 @@ passed test value other cause = by (test value) refl where
   by true is e = let same : value ≡ other = cc in subst (λ (v : _). test v ≡ true) same is
   by false is e = absurd cc
 
-number_passed : (greatest : ℕ) (given : Data) (n : ℕ) → number_up_to greatest given ≡ Ok n → nat_le 1 n && nat_le n greatest ≡ true
+number_passed : (greatest : ℕ) (given : Data) (n : ℕ) → integer_up_to greatest given ≡ Ok n → nat_le 1 n && nat_le n greatest ≡ true
 number_passed greatest (integer (pos m)) n e = passed (λ (k : ℕ). nat_le 1 k && nat_le k greatest) m n _ e
 number_passed greatest (integer (negsuc m)) n e = absurd cc
 number_passed greatest (string s) n e = absurd cc
@@ -96,9 +96,9 @@ found_passed test value standard v (Some given) each is e = each given v e
 found_passed test value standard v None each is e = let same : standard ≡ v = cc in subst (λ (w : _). test w ≡ true) same is
 
 number_in : (greatest standard n : ℕ) (found : Option Data) → nat_le 1 standard && nat_le standard greatest ≡ true
-    → option_map_or (number_up_to greatest) found (Ok standard) ≡ Ok n → nat_le 1 n && nat_le n greatest ≡ true
+    → option_map_or (integer_up_to greatest) found (Ok standard) ≡ Ok n → nat_le 1 n && nat_le n greatest ≡ true
 number_in greatest standard n found is e =
-    found_passed (λ (k : ℕ). nat_le 1 k && nat_le k greatest) (number_up_to greatest) standard n found (number_passed greatest) is e
+    found_passed (λ (k : ℕ). nat_le 1 k && nat_le k greatest) (integer_up_to greatest) standard n found (number_passed greatest) is e
 
 pub of_settings : (given : Members) (settings : Settings) → settings_in given ≡ Ok settings → is_settings settings ≡ true
 unfolding settings_in

@@ -10,10 +10,10 @@ use Rattle.chew_spec_settings.specs.Fault.{SettingCause, Kind, Range}
 use Rattle.chew_spec_settings.specs.Name.{SettingName, Layout, Buffer, Page, Selection, EscapeClears, Learn, Cap, setting_word}
 
 -- a number of at least 1 and at most this
-abbrev pub number_up_to : ℕ → Data → Result ℕ SettingCause
-number_up_to greatest (integer (pos number)) = if nat_le 1 number && nat_le number greatest then Ok number else Err Range
-number_up_to greatest (integer (negsuc number)) = Err Range
-number_up_to greatest _ = Err Kind
+abbrev pub integer_up_to : ℕ → Data → Result ℕ SettingCause
+integer_up_to greatest (integer (pos number)) = if nat_le 1 number && nat_le number greatest then Ok number else Err Range
+integer_up_to greatest (integer (negsuc number)) = Err Range
+integer_up_to greatest _ = Err Kind
 
 -- yes or no
 abbrev pub truth : Data → Result Bool SettingCause
@@ -50,10 +50,10 @@ abbrev pub layout_in : Members → Result layout.Kind SettingCause
 layout_in = said Layout layout_value standard_settings.layout
 
 abbrev pub buffer_in : Members → Result ℕ SettingCause
-buffer_in = said Buffer (number_up_to 39) standard_settings.buffer
+buffer_in = said Buffer (integer_up_to 39) standard_settings.buffer
 
 abbrev pub page_in : Members → Result ℕ SettingCause
-page_in = said Page (number_up_to 10) standard_settings.page
+page_in = said Page (integer_up_to 10) standard_settings.page
 
 abbrev pub selection_in : Members → Result (List ℕ) SettingCause
 selection_in = said Selection selection_value standard_settings.selection
@@ -65,4 +65,4 @@ abbrev pub learn_in : Members → Result Bool SettingCause
 learn_in = said Learn truth standard_settings.learn
 
 abbrev pub cap_in : Members → Result ℕ SettingCause
-cap_in = said Cap (number_up_to 200_000) standard_settings.cap
+cap_in = said Cap (integer_up_to 200_000) standard_settings.cap

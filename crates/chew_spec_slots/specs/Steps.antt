@@ -39,7 +39,8 @@ pub record LeftGate (keep : Keep) (disk : DiskState) (keep_then : Keep) (disk_th
   pub chances : AlwaysMightLeave disk.moment disk_then.moment disk_then (RecoversToOld keep disk)
 
 -- lifting the gate: at every moment recovery gives the state that counts, or the one that was written
-pub record LiftsGate {T E : Type 0} (keep : Keep) (disk : DiskState) (keep_then : Keep) (disk_then : DiskState) (saved : Saved) (answer : Result T E) : Type 0 where
+pub record LiftsGate {T E : Type 0} (keep : Keep) (disk : DiskState) (keep_then : Keep) (disk_then : DiskState) (saved : Saved)
+    (answer : Result T E) : Type 0 where
   pub fits : Fits keep_then disk_then
   pub moments : AlwaysLeft disk.moment disk_then (λ zero one. RecoversToOld keep disk zero one ⊎ RecoversTo saved.checkpoint zero one)
   pub done : MatchResult answer (λ _. LiftedGate keep disk keep_then disk_then saved) (λ _. LeftGate keep disk keep_then disk_then saved)

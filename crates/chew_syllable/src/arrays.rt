@@ -31,8 +31,16 @@ pub fn text_of<const N: usize>(bytes: &[u8]) -> ArrayString<N>
     requires room { length bytes.now ≤ N }
     ensures { result.bytes ≡ bytes.now }
 {
+    string_of(utf8_of(bytes))
+}
+
+/// The text that these bytes are.
+pub fn utf8_of(bytes: &[u8]) -> &str
+    requires { IsUtf8 bytes.now }
+    ensures { result.now ≡ bytes.now }
+{
     match str::from_utf8(bytes) {
-        Ok(text) => string_of(text),
+        Ok(text) => text,
         Err(_) => unreachable!(),
     }
 }

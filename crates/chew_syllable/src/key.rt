@@ -44,6 +44,18 @@ impl Key {
         Some(Key { syllables })
     }
 
+    /// The key of 1 to 11 syllables. It takes no memory.
+    pub fn of_some(syllables: &[Syllable]) -> Key
+        requires some { 1 ≤ length syllables.now }
+        requires few { length syllables.now ≤ 11 }
+        ensures { result ≡ syllables.now }
+    {
+        all_are_syllables(syllables);
+        Key {
+            syllables: array_of(syllables),
+        }
+    }
+
     /// How many syllables it has, 1 to 11.
     pub fn len(&self) -> usize
         ensures { result ≡ length self.now }
@@ -96,6 +108,17 @@ impl Run {
         all_are_syllables(syllables);
         let syllables = ArrayVec::try_from(syllables).ok()?;
         Some(Run { syllables })
+    }
+
+    /// The run of at most 39 syllables. It takes no memory.
+    pub fn of_few(syllables: &[Syllable]) -> Run
+        requires { length syllables.now ≤ 39 }
+        ensures { result ≡ syllables.now }
+    {
+        all_are_syllables(syllables);
+        Run {
+            syllables: array_of(syllables),
+        }
     }
 
     /// The syllables, in order.

@@ -16,14 +16,14 @@ mod syllable;
 mod tests;
 mod text;
 
-pub use arrays::{array_of, string_of, text_of};
+pub use arrays::{array_of, string_of, text_of, utf8_of};
 pub use bopomofo_reading::read_bopomofo;
 pub use characters::split_character;
 pub use columns::{Columns, has_key, number_in, number_of, place_of};
 pub use key::{KEY_LIMIT, Key, RUN_LIMIT, Run};
 pub use memory::NoMemory;
 pub use parts::Parts;
-pub use phrase::{BadPhrase, CHARACTER_LIMIT, Phrase, is_allowed};
+pub use phrase::{BadPhrase, CHARACTER_LIMIT, PHRASE_LIMIT, Phrase, is_allowed};
 pub use row::{GREATEST_FREQ, KeyRow, SYSTEM_ROWS_LIMIT, USER_ROWS_LIMIT};
 pub use step::{BACKSPACE, SPACE, Step};
 pub use syllable::{BadSyllable, Syllable};

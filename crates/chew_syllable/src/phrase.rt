@@ -2,12 +2,16 @@ ghost use Rattle.std.specs.Prelude.{◌≡◌, ℕ, suc, ◌+◌, ◌-◌, ◌<�
 ghost use Rattle.chew_spec_syllable.specs.Phrase.{is_allowed, is_phrase, phrase_end};
 ghost use Rattle.chew_syllable.specs.Front.{IsValidFront, allowed_bytes};
 
-use crate::arrays::string_of;
+use crate::arrays::{string_of, utf8_of};
+use crate::key::KEY_LIMIT;
 use arrayvec::ArrayString;
 use std::marker::Model;
 
-/// The most characters of a phrase.
-pub const CHARACTER_LIMIT: usize = 11;
+/// The most characters of a phrase, one for each syllable of its key.
+pub const CHARACTER_LIMIT: usize = KEY_LIMIT;
+
+/// The most bytes of a phrase, 4 for each character.
+pub const PHRASE_LIMIT: usize = 44;
 
 /// The least character that may stand in a phrase.
 const FIRST_ALLOWED: char = '\u{A1}';
@@ -15,7 +19,7 @@ const FIRST_ALLOWED: char = '\u{A1}';
 /// 1 to 11 characters, each from U+00A1 on and no white space.
 #[derive(Debug, Drop)]
 pub struct Phrase {
-    text: ArrayString<44>,
+    text: ArrayString<PHRASE_LIMIT>,
 }
 
 impl Model for Phrase {
@@ -52,10 +56,7 @@ fn valid_front(text: &[u8]) -> &str
 {
     match str::from_utf8(text) {
         Ok(whole) => whole,
-        Err(fault) => match str::from_utf8(&text[..fault.valid_up_to()]) {
-            Ok(front) => front,
-            Err(_) => unreachable!(),
-        },
+        Err(fault) => utf8_of(&text[..fault.valid_up_to()]),
     }
 }
 

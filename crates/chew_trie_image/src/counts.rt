@@ -6,11 +6,17 @@ use crate::fault::ImageFault;
 use crate::fields::ROW_LEN;
 use crate::node::NODE_LEN;
 use crate::number::u32_at;
-use chew_syllable::SYSTEM_ROWS_LIMIT;
+use chew_syllable::{KEY_LIMIT, PHRASE_LIMIT, SYSTEM_ROWS_LIMIT};
 use std::marker::Model;
 
 /// How many bytes stand before the nodes.
 pub const HEADER_LEN: usize = 20;
+
+/// The most nodes that a row needs, one for each syllable of its key.
+const ROW_NODES: u32 = KEY_LIMIT as u32;
+
+/// The most bytes of text that a row has, those of its phrase.
+const ROW_TEXT: u32 = PHRASE_LIMIT as u32;
 
 /// How many rows, nodes and bytes of text an image has.
 #[derive(Clone, Copy, Debug, PartialEq, Eq)]
@@ -98,10 +104,10 @@ pub(crate) fn check_counts(counts: &Counts, len: usize) -> Result<(), ImageFault
     if counts.rows > SYSTEM_ROWS_LIMIT {
         return Err(ImageFault { place: 8 });
     }
-    if counts.nodes == 0 || counts.nodes > 11 * counts.rows + 1 {
+    if counts.nodes == 0 || counts.nodes > ROW_NODES * counts.rows + 1 {
         return Err(ImageFault { place: 12 });
     }
-    if counts.text > 44 * counts.rows {
+    if counts.text > ROW_TEXT * counts.rows {
         return Err(ImageFault { place: 16 });
     }
     let end = counts.image_end();

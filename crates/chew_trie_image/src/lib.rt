@@ -18,5 +18,5 @@ pub use counts::{Counts, HEADER_LEN, counts_in};
 pub use fault::ImageFault;
 pub use fields::{ROW_LEN, RowFields, row_at};
 pub use node::{NODE_LEN, Node, node_at};
-pub use parts::MAGIC;
+pub use parts::{EMPTY_IMAGE, MAGIC};
 pub use rows_read::phrase_in;

@@ -7,6 +7,12 @@ use crate::fault::ImageFault;
 /// The bytes with which every image begins.
 pub const MAGIC: [u8; 8] = *b"CHEWTRI1";
 
+/// The image of no rows: the magic, no row, one node, no text, and that node.
+pub const EMPTY_IMAGE: [u8; 36] = [
+    b'C', b'H', b'E', b'W', b'T', b'R', b'I', b'1', 0, 0, 0, 0, 1, 0, 0, 0, 0, 0, 0, 0, 0, 0, 0, 0,
+    1, 0, 0, 0, 0, 0, 0, 0, 0, 0, 0, 0,
+];
+
 /// Bytes that begin as an image does and are as long as the numbers in their header say.
 #[derive(Drop)]
 pub(crate) struct Parts<'a> {

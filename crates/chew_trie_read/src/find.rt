@@ -51,10 +51,7 @@ pub(crate) fn find(image: &Image, key: &[Syllable]) -> Option<u32>
 {
     let mut node = 0;
     for syllable in key {
-        match child_of(image, node, syllable.code()) {
-            Some(child) => node = child,
-            None => return None,
-        }
+        node = child_of(image, node, syllable.code())?;
     }
     Some(node)
 }

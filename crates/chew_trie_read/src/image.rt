@@ -9,6 +9,7 @@ ghost use Rattle.chew_spec_image.specs.Reading.{image_place, rows_in};
 ghost use Rattle.chew_trie_read.specs.Search.{IsNode};
 
 use chew_plain::RowRef;
+use chew_syllable::utf8_of;
 use chew_trie_image::{
     Counts, HEADER_LEN, NODE_LEN, Node, ROW_LEN, counts_in, node_at, phrase_in, row_at,
 };
@@ -32,17 +33,6 @@ impl<'a> Model for Image<'a> {
     ghost view = { λ image. rows_in image.bytes.now };
 
     ghost invariant = { λ image. IsStored image.bytes.now image.counts };
-}
-
-/// The text of bytes that were checked.
-fn text_of(bytes: &[u8]) -> &str
-    requires { IsUtf8 bytes.now }
-    ensures { result.now ≡ bytes.now }
-{
-    match str::from_utf8(bytes) {
-        Ok(text) => text,
-        Err(_) => unreachable!(),
-    }
 }
 
 /// Bytes without a fault are the image of what they stand for. It does nothing, and is there for proofs alone.
@@ -99,7 +89,7 @@ impl<'a> Image<'a> {
         let row = row_at(bytes, self.counts.rows_place() + ROW_LEN * place as usize);
         let text = &bytes[self.counts.text_place()..];
         RowRef {
-            phrase: text_of(phrase_in(text, &row)),
+            phrase: utf8_of(phrase_in(text, &row)),
             freq: row.freq,
             time: row.time,
         }

@@ -96,8 +96,5 @@ pub(crate) fn key_of(image: &Image, place: u32) -> Key
         node = parent_of(image, node);
     }
     let whole = &syllables[..];
-    match Key::of(&whole[from..]) {
-        Some(key) => key,
-        None => unreachable!(),
-    }
+    Key::of_some(&whole[from..])
 }

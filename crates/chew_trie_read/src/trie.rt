@@ -42,9 +42,18 @@ impl Trie {
         ensures image { OnOk result (image_place bytes.items ≡ None) }
         ensures err { IfErr result (λ fault. image_place bytes.items ≡ Some fault.place) }
     {
-        match check_image(bytes.as_slice()) {
-            Ok(()) => Ok(Trie { bytes }),
-            Err(fault) => Err(fault),
+        check_image(bytes.as_slice())?;
+        Ok(Trie { bytes })
+    }
+
+    /// The dictionary of bytes without a fault. It takes no memory.
+    pub fn of_image(bytes: Vec<u8>) -> Trie
+        requires { image_place bytes.items ≡ None }
+        ensures { result ≡ rows_in bytes.items }
+    {
+        match Trie::of(bytes) {
+            Ok(trie) => trie,
+            Err(_) => unreachable!(),
         }
     }
 

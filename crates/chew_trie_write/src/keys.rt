@@ -30,10 +30,7 @@ fn prefix(key: &Key, len: usize) -> Key
     requires within { len ≤ length key.now }
     ensures { result ≡ take len key.now }
 {
-    match Key::of(&key.list()[..len]) {
-        Some(prefix) => prefix,
-        None => unreachable!(),
-    }
+    Key::of_some(&key.list()[..len])
 }
 
 /// Adds the prefixes of a key, but for the empty one.

@@ -1,6 +1,7 @@
 //! Opens the real files, and makes the one call that runs the program.
 #![tactic(auto)]
 
+use chew_commands::status;
 use chew_make::make_call;
 use chew_outside::{Fails, FolderDisk, FreeGate, MemDisk, MemSource, Source, StdSink, StdSource};
 use chewing_cli::{Command, build_call, check_call, chewing, command_of, dump_call};
@@ -15,9 +16,6 @@ use std::{env, fs, io};
 
 /// The status where a file can't be opened. No call gives it.
 const NOT_OPENED: u8 = 13;
-
-/// The status where memory was wanting.
-const NO_MEMORY: u8 = 10;
 
 fn main(rt: HostRuntime) -> ExitCode {
     match words_of(&rt) {
@@ -49,7 +47,7 @@ fn run_words<R: Files<File = File> + Print + Eprint + AllocGlobal + Wait + Threa
     words: &[String],
 ) -> u8 {
     match lent(rt.alloc(), words) {
-        Ok(words) => run(rt, words.as_slice()),
+        Ok(words) => run_command(rt, words.as_slice()),
         Err(AllocError) => out_of_memory(rt),
     }
 }
@@ -59,7 +57,7 @@ fn lent<'a>(alloc: Global, words: &'a [String]) -> Result<Vec<&'a str>, AllocErr
 }
 
 /// Runs the command that the words are, over the files that they name.
-fn run<R: Files<File = File> + Print + Eprint + AllocGlobal + Wait + Threads + Sync>(
+fn run_command<R: Files<File = File> + Print + Eprint + AllocGlobal + Wait + Threads + Sync>(
     rt: &R,
     words: &[&str],
 ) -> u8 {
@@ -284,7 +282,7 @@ fn refuse<R: Print + AllocGlobal + Wait + Threads + Sync>(rt: &R, words: &[&str]
 /// Tells that memory was wanting before the words were known, which makes no call.
 fn out_of_memory<R: Print>(rt: &R) -> u8 {
     let _ = println!(rt; "memory");
-    NO_MEMORY
+    status::NO_MEMORY
 }
 
 fn not_opened<R: Eprint>(rt: &R, name: &str) -> u8 {

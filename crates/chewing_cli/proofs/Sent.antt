@@ -46,12 +46,13 @@ rounds_first view number (y ∷ ys) x d others some is behind =
     ap (λ zs. round_line number (view x) ++ rounds_from (number + 1) (map view zs)) behind
     ∙ ap₂ (λ z n. round_line number (view z) ++ rounds_from n (map view ys)) is (let e : number + 1 ≡ suc number = omega arith in e)
 
--- the sink failed at the first of two texts, or at the second, or took both
-pub ended_first : (sink : Sunk) (one other whole bytes : List ℕ) (failed : Bool) → one ++ other ≡ whole → bytes ≡ one → failed ≡ true
-    → Writes sink bytes failed → Writes sink whole true
-ended_first sink one other whole bytes failed joined same ended writes =
-    subst (λ text. Writes sink text true) joined
-    (writes-ended sink one other (subst (λ text. Writes sink text true) same (subst (λ b. Writes sink bytes b) ended writes)))
+-- the sink failed at the first of two texts, which is passed on, or at the second, or took both
+pub ended_first : (sink : Sunk) (one other whole bytes : List ℕ) (failed told : Bool) → one ++ other ≡ whole → bytes ≡ one → failed ≡ true → told ≡ true
+    → Writes sink bytes failed → Writes sink whole told
+ended_first sink one other whole bytes failed told joined same ended passed writes =
+    subst (λ text. Writes sink text told) joined
+    (subst (λ b. Writes sink (one ++ other) b) (sym passed)
+    (writes-ended sink one other (subst (λ text. Writes sink text true) same (subst (λ b. Writes sink bytes b) ended writes))))
 
 pub sent_both : (before middle now : Option (List ℕ)) (first second third : ℕ) (one other whole bytes : List ℕ) (failed : Bool) → one ++ other ≡ whole → bytes ≡ one
     → Writes (sunk before middle first second) bytes false → Writes (sunk middle now second third) other failed

@@ -16,8 +16,10 @@ use crate::sending::{send_contexts, send_rounds};
 use crate::tracing::{TraceFault, send_trace};
 use arrayvec::ArrayVec;
 use chew_checkpoint::Round;
+use chew_commands::status;
 use chew_outside::{Failed, Sink};
 use chew_plain::Entry;
+use chew_script::CONTEXTS_LIMIT;
 use chew_session::{ContextEnd, Ended};
 use std::alloc::Global;
 
@@ -94,7 +96,7 @@ fn last_rounds(ended: &Ended) -> &[Round]
 }
 
 /// How many keys each context handled.
-fn counts_of(ends: &[ContextEnd]) -> ArrayVec<u32, 16>
+fn counts_of(ends: &[ContextEnd]) -> ArrayVec<u32, CONTEXTS_LIMIT>
     requires { length ends.now ≤ 16 }
     ensures { result.items ≡ map (λ end. end.handled) ends.now }
 {
@@ -111,8 +113,8 @@ fn status_of(shown: Result<(), TraceFault>, memory: bool, last: &[Round]) -> u8
 {
     match shown {
         Ok(()) => written_status(memory, last),
-        Err(TraceFault::NoMemory) => 10,
-        Err(TraceFault::SinkFailed) => 8,
+        Err(TraceFault::NoMemory) => status::NO_MEMORY,
+        Err(TraceFault::SinkFailed) => status::SINK_FAILED,
     }
 }
 
@@ -121,15 +123,15 @@ fn written_status(memory: bool, last: &[Round]) -> u8
     ensures { result ≡ done_status false memory (map round_of last.now) }
 {
     if memory {
-        return 10;
+        return status::NO_MEMORY;
     }
     if has_disk_fault(last) {
-        return 9;
+        return status::DISK_FAILED;
     }
     if has_spent(last) {
-        return 11;
+        return status::SEQ_SPENT;
     }
-    0
+    status::DONE
 }
 
 /// Whether the disk failed in one of these rounds.

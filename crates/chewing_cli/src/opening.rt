@@ -59,27 +59,16 @@ pub(crate) fn open<S: Source, I: Source, Y: Source, D: Disk>(
     if !is_run(words) {
         return Err(Refusal::WrongWords);
     }
-    let settings = match open_settings(alloc, words, settings) {
-        Ok(settings) => settings,
-        Err(refusal) => return Err(refusal),
-    };
-    let system = match open_system(alloc, system) {
-        Ok(system) => system,
-        Err(refusal) => return Err(refusal),
-    };
-    let script = match open_script(alloc, script) {
-        Ok(script) => script,
-        Err(refusal) => return Err(refusal),
-    };
-    match open_slots(alloc, disk) {
-        Ok(found) => Ok(Opened {
-            settings,
-            system,
-            script,
-            found,
-        }),
-        Err(refusal) => Err(refusal),
-    }
+    let settings = open_settings(alloc, words, settings)?;
+    let system = open_system(alloc, system)?;
+    let script = open_script(alloc, script)?;
+    let found = open_slots(alloc, disk)?;
+    Ok(Opened {
+        settings,
+        system,
+        script,
+        found,
+    })
 }
 
 /// Reads the settings where the words name them, and else gives the standard ones.

@@ -9,6 +9,7 @@ ghost use Rattle.chew_spec_settings.specs.Name.{setting_word};
 ghost use Rattle.chewing_cli.specs.Refusals.{image_refusal, kind_of, read_refusal, script_refusal, settings_refusal, slots_refusal, system_refusal};
 
 use arrayvec::ArrayString;
+use chew_commands::status;
 use chew_outside::ReadFault;
 use chew_rows::{RowCause, RowsFault};
 use chew_script::{ScriptCause, ScriptFault};
@@ -124,21 +125,21 @@ impl Refusal {
         ensures { result ≡ refusal_status (kind_of self) }
     {
         match self {
-            Refusal::WrongWords => 2,
-            Refusal::WrongSettings { .. } => 3,
-            Refusal::WrongSystem { .. } => 4,
-            Refusal::WrongScript { .. } => 5,
-            Refusal::WrongImage { .. } => 4,
-            Refusal::SlotTooLarge { .. } => 6,
-            Refusal::SlotDamaged { .. } => 6,
-            Refusal::SourceFailed => 7,
-            Refusal::DiskFailed => 9,
-            Refusal::NoMemory => 10,
+            Refusal::WrongWords => status::WRONG_WORDS,
+            Refusal::WrongSettings { .. } => status::WRONG_SETTINGS,
+            Refusal::WrongSystem { .. } => status::WRONG_SYSTEM,
+            Refusal::WrongScript { .. } => status::WRONG_SCRIPT,
+            Refusal::WrongImage { .. } => status::WRONG_SYSTEM,
+            Refusal::SlotTooLarge { .. } => status::WRONG_SLOT,
+            Refusal::SlotDamaged { .. } => status::WRONG_SLOT,
+            Refusal::SourceFailed => status::SOURCE_FAILED,
+            Refusal::DiskFailed => status::DISK_FAILED,
+            Refusal::NoMemory => status::NO_MEMORY,
         }
     }
 
     /// The one line that is written. It takes no memory.
-    pub(crate) fn line(self) -> ArrayString<40>
+    pub(crate) fn refusal_line(self) -> ArrayString<40>
         ensures { result.bytes ≡ refusal_line (kind_of self) }
     {
         match self {

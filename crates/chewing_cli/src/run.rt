@@ -1,7 +1,7 @@
 ghost use Rattle.std.specs.Prelude.{◌≡◌, ◌+◌, ◌∷◌, ◌≤◌, [], IfOk, length, map, true};
 ghost use Rattle.std.specs.List.{range_with_len};
 ghost use Rattle.chew_spec_disk.specs.Disk.{Later};
-ghost use Rattle.chew_spec_cell.specs.Pass.{new_passes};
+ghost use Rattle.chew_spec_cell.specs.Pass.{fresh_pass, new_passes};
 ghost use Rattle.chew_spec_rounds.specs.InStep.{IsInStep};
 ghost use Rattle.chew_spec_rounds.specs.Session.{IsSession as NeverLoses};
 ghost use Rattle.chew_spec_session.specs.LastRounds.{disk_faults};
@@ -96,7 +96,7 @@ fn share(
     requires cap { settings.now.cap ≤ 200_000 }
     ensures start { IfOk result (λ seats. seats.shared.start ≡ record { pairs = base; life = life; cap = settings.now.cap }) }
     ensures seats { IfOk result (λ seats. seats.shared.seats ≡ length actors.now + 1) }
-    ensures keeper { IfOk result (λ seats. seats.keeper ≡ record { cell = seats.shared; who = 0; seen = [] }) }
+    ensures keeper { IfOk result (λ seats. seats.keeper ≡ fresh_pass seats.shared 0) }
     ensures passes { IfOk result (λ seats. seats.keeper ∷ seats.passes.items ≡ new_passes seats.shared (length actors.now + 1)) }
 {
     Shared::open(alloc, base, life, settings.cap, actors.len() as u32)
@@ -118,7 +118,7 @@ fn run_session<R: Wait + Threads + Sync, D: Disk, G: Gate>(
     requires contexts { length actors.items ≤ 16 }
     requires typing { MayType seats.shared settings.now actors.items }
     requires rounds { rounds ≤ 64 }
-    requires keeper { seats.keeper ≡ record { cell = seats.shared; who = 0; seen = [] } }
+    requires keeper { seats.keeper ≡ fresh_pass seats.shared 0 }
     requires passes { seats.keeper ∷ seats.passes.items ≡ new_passes seats.shared (length actors.items + 1) }
     requires seats { seats.shared.seats ≡ length actors.items + 1 }
     ensures session { IsSession (basis_of (rows_of system.now) settings.now seats.shared)

@@ -45,10 +45,8 @@ fn send_lines<O: Sink>(sink: &mut O, end: &ContextEnd) -> Result<(), Failed>
 fn send_context<O: Sink>(sink: &mut O, number: u32, end: &ContextEnd) -> Result<(), Failed>
     ensures { Writes (sunk (O.taken sink.old) (O.taken sink.new) (O.faults sink.old) (O.faults sink.new)) (header number ++ end.now.bytes) (is_err result) }
 {
-    match send(sink, header(number).as_bytes()) {
-        Ok(()) => send_lines(sink, end),
-        Err(failed) => Err(failed),
-    }
+    send(sink, header(number).as_bytes())?;
+    send_lines(sink, end)
 }
 
 /// Writes the header and the lines of each context, numbered from this one, up to the first write that fails.
@@ -63,10 +61,10 @@ pub(crate) fn send_contexts<O: Sink>(
 {
     match ends {
         [] => Ok(()),
-        [end, rest @ ..] => match send_context(sink, number, end) {
-            Ok(()) => send_contexts(sink, number + 1, rest),
-            Err(failed) => Err(failed),
-        },
+        [end, rest @ ..] => {
+            send_context(sink, number, end)?;
+            send_contexts(sink, number + 1, rest)
+        }
     }
 }
 
@@ -126,10 +124,10 @@ pub(crate) fn send_rounds<O: Sink>(
 {
     match rounds {
         [] => Ok(()),
-        [round, rest @ ..] => match send_round(sink, number, round) {
-            Ok(()) => send_rounds(sink, number + 1, rest),
-            Err(failed) => Err(failed),
-        },
+        [round, rest @ ..] => {
+            send_round(sink, number, round)?;
+            send_rounds(sink, number + 1, rest)
+        }
     }
 }
 
@@ -138,7 +136,7 @@ pub(crate) fn refuse<O: Sink>(alloc: Global, refusal: Refusal, sink: &mut O) -> 
     ensures { IsRefused (kind_of refusal) (sunk (O.taken sink.old) (O.taken sink.new) (O.faults sink.old) (O.faults sink.new)) (ended_of result) }
 {
     // the status of a refusal stays where its line isn't written
-    let _ = send(sink, refusal.line().as_bytes());
+    let _ = send(sink, refusal.refusal_line().as_bytes());
     Done {
         status: refusal.status(),
         journal: Vec::new(alloc),

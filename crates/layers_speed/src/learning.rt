@@ -8,7 +8,7 @@ use crate::work::Work;
 use chew_layers::Layers;
 use chew_measuring::Failure;
 use chew_plain::{Call, Plain};
-use chew_syllable::{KeyRow, NoMemory};
+use chew_syllable::{KeyRow, NoMemory, USER_ROWS_LIMIT};
 use chew_trie_read::Trie;
 use chew_trie_write::write_image;
 use std::alloc::Global;
@@ -17,7 +17,7 @@ use std::sync::Arc;
 use std::time::CpuClock;
 
 /// The most pairs of a user's dictionary.
-const CAP: u32 = 200_000;
+const CAP: u32 = USER_ROWS_LIMIT;
 
 /// The number of who makes the calls.
 const USER: u32 = 1;
@@ -39,7 +39,7 @@ impl Learning {
         let Ok(base) = Trie::of(write_image(alloc, &[])?) else {
             return Err(Failure::Form);
         };
-        if base.total() > 200_000 {
+        if base.total() > USER_ROWS_LIMIT {
             return Err(Failure::Form);
         }
         Ok(Learning {

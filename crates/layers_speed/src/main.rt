@@ -34,7 +34,7 @@ const FAILED: u8 = 1;
 const CALLS: usize = 60_000;
 
 fn main(rt: HostRuntime) -> ExitCode {
-    match run(&rt) {
+    match measure_layers(&rt) {
         Ok(status) => ExitCode::from(status),
         Err(failure) => {
             let _ = println!(rt; "{failure}");
@@ -44,7 +44,7 @@ fn main(rt: HostRuntime) -> ExitCode {
 }
 
 /// Measures the file that the word names: a dictionary.
-fn run<R: Env + Files + Print + CpuClock + AllocGlobal>(rt: &R) -> Result<u8, Failure> {
+fn measure_layers<R: Env + Files + Print + CpuClock + AllocGlobal>(rt: &R) -> Result<u8, Failure> {
     let mut words = Vec::new(rt.alloc());
     for word in env::args(rt)?.skip(1) {
         words.push(word)?;

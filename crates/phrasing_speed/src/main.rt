@@ -26,7 +26,7 @@ const WRONG_WORDS: u8 = 2;
 const FAILED: u8 = 1;
 
 fn main(rt: HostRuntime) -> ExitCode {
-    match run(&rt) {
+    match measure_phrasing(&rt) {
         Ok(status) => ExitCode::from(status),
         Err(failure) => {
             let _ = println!(rt; "{failure}");
@@ -36,7 +36,9 @@ fn main(rt: HostRuntime) -> ExitCode {
 }
 
 /// Measures the files that the words name: a dictionary and a script.
-fn run<R: Env + Files + Print + CpuClock + AllocGlobal>(rt: &R) -> Result<u8, Failure> {
+fn measure_phrasing<R: Env + Files + Print + CpuClock + AllocGlobal>(
+    rt: &R,
+) -> Result<u8, Failure> {
     let mut words = Vec::new(rt.alloc());
     for word in env::args(rt)?.skip(1) {
         words.push(word)?;

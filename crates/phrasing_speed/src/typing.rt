@@ -9,12 +9,10 @@ use chew_layouts::{Kind, Layout};
 use chew_measuring::Failure;
 use chew_phrasing::{Piece, best_of_run};
 use chew_plain::{Call, Hit, Hits, Lexicon, Plain, Reply, RowMap};
-use chew_syllable::{Key, NoMemory, Phrase, RUN_LIMIT, Run, Step, Syllable};
+use chew_settings::STANDARD_CAP;
+use chew_syllable::{GREATEST_FREQ, Key, NoMemory, Phrase, RUN_LIMIT, Run, Step, Syllable};
 use std::alloc::Global;
 use std::time::CpuClock;
-
-/// The most pairs of a user's dictionary.
-const CAP: u32 = 65_536;
 
 /// A buffer of syllables, and what it is phrased by.
 #[derive(Drop)]
@@ -33,7 +31,7 @@ impl Typing {
         Ok(Typing {
             alloc,
             system,
-            plain: Plain::of(Vec::new(alloc), 0, CAP)?,
+            plain: Plain::of(Vec::new(alloc), 0, STANDARD_CAP)?,
             layout: Layout::of(Kind::Standard),
             cells: Vec::new(alloc),
             pieces: Vec::new(alloc),
@@ -154,7 +152,7 @@ fn learn_pair(
     phrase: Phrase,
 ) -> Result<(), NoMemory> {
     let (orig, peak) = system.orig_and_peak(key.list(), phrase.text());
-    if key.len() != phrase.characters() || orig > peak || peak > 99_999_999 {
+    if key.len() != phrase.characters() || orig > peak || peak > GREATEST_FREQ {
         return Ok(());
     }
     let _reply = plain.apply(&Call::Learn {

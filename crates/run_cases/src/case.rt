@@ -22,10 +22,7 @@ impl<'a> Part<'a> {
     }
 
     fn get(self, key: &str) -> Option<&'a Value> {
-        match self.table {
-            Some(table) => table.get(key),
-            None => None,
-        }
+        self.table?.get(key)
     }
 
     /// The table under a key.

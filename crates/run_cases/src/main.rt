@@ -29,7 +29,7 @@ use toml::Value;
 const FAILED: u8 = 1;
 
 fn main(rt: HostRuntime) -> ExitCode {
-    match run(&rt) {
+    match run_files(&rt) {
         Ok(()) => ExitCode::SUCCESS,
         Err(failure) => {
             let _ = println!(rt; "{failure}");
@@ -39,7 +39,7 @@ fn main(rt: HostRuntime) -> ExitCode {
 }
 
 /// Tries the cases of each file.
-fn run<R: Env + Files + Print + AllocGlobal + Wait + Threads + Sync>(
+fn run_files<R: Env + Files + Print + AllocGlobal + Wait + Threads + Sync>(
     rt: &R,
 ) -> Result<(), Failure> {
     for name in env::args(rt)?.skip(1) {

@@ -3,7 +3,7 @@
 use crate::failure::Failure;
 use chew_samples::{CE, SHI, syllable};
 use chew_shared_samples::{UserCall, pair};
-use chew_syllable::{Run, Syllable};
+use chew_syllable::{GREATEST_FREQ, Run, Syllable};
 use std::alloc::Global;
 
 /// To learn a pair, whose frequency in the system is at most the greatest of its key.
@@ -12,7 +12,7 @@ fn learn(key: &[Syllable], text: &str, orig: u32, peak: u32) -> Option<UserCall>
     if orig > peak {
         return None;
     }
-    if peak > 99_999_999 {
+    if peak > GREATEST_FREQ {
         return None;
     }
     Some(UserCall::learn(key, phrase, orig, peak))

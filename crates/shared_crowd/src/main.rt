@@ -36,7 +36,7 @@ const CAP: u32 = 5;
 const FAILED: u8 = 1;
 
 fn main(rt: HostRuntime) -> ExitCode {
-    match run(&rt) {
+    match run_crowd(&rt) {
         Ok(()) => ExitCode::SUCCESS,
         Err(failure) => {
             let _ = println!(rt; "{failure}");
@@ -46,7 +46,7 @@ fn main(rt: HostRuntime) -> ExitCode {
 }
 
 /// Has all make their calls, and compares what they were told with what the plain map replies.
-fn run<R: Print + AllocGlobal + Threads + Wait + Sync>(rt: &R) -> Result<(), Failure> {
+fn run_crowd<R: Print + AllocGlobal + Threads + Wait + Sync>(rt: &R) -> Result<(), Failure> {
     let alloc = rt.alloc();
     let calls = all_calls(alloc)?;
     let Opened {

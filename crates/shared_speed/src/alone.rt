@@ -5,13 +5,14 @@ use crate::figures::{Measured, Spent};
 use chew_layers::Layers;
 use chew_measuring::Failure;
 use chew_shared_samples::UserCall;
+use chew_syllable::USER_ROWS_LIMIT;
 use chew_trie_read::Trie;
 use std::alloc::AllocGlobal;
 use std::sync::Arc;
 use std::time::{Clock, CpuClock, Duration};
 
 /// The most pairs of a user's dictionary.
-pub(crate) const CAP: u32 = 200_000;
+pub(crate) const CAP: u32 = USER_ROWS_LIMIT;
 
 /// The number of who makes the calls.
 const USER: u32 = 1;

@@ -52,7 +52,7 @@ struct Plan<'a> {
 }
 
 fn main(rt: HostRuntime) -> ExitCode {
-    match run(&rt) {
+    match measure_words(&rt) {
         Ok(status) => ExitCode::from(status),
         Err(failure) => {
             let _ = println!(rt; "{failure}");
@@ -62,7 +62,7 @@ fn main(rt: HostRuntime) -> ExitCode {
 }
 
 /// Measures calls over the image that the word names. Without a word it makes few calls over five rows, and measures nothing.
-fn run<R: Env + Files + Print + Clock + CpuClock + AllocGlobal + Threads + Wait + Sync>(
+fn measure_words<R: Env + Files + Print + Clock + CpuClock + AllocGlobal + Threads + Wait + Sync>(
     rt: &R,
 ) -> Result<u8, Failure> {
     let mut words = Vec::new(rt.alloc());

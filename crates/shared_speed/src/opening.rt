@@ -1,6 +1,7 @@
 ghost use Rattle.std.specs.Prelude.{◌≤◌, IfOk, length};
 
 use chew_measuring::Failure;
+use chew_syllable::USER_ROWS_LIMIT;
 use chew_trie_read::Trie;
 use chew_trie_write::write_image;
 use std::alloc::AllocGlobal;
@@ -27,7 +28,7 @@ pub(crate) fn map_of<R: Files + AllocGlobal>(rt: &R, base: &Base<'_>) -> Result<
     let Ok(map) = Trie::of(image) else {
         return Err(Failure::Form);
     };
-    if map.total() > 200_000 {
+    if map.total() > USER_ROWS_LIMIT {
         return Err(Failure::Form);
     }
     Ok(map)

@@ -5,7 +5,7 @@ use crate::opening::{Base, map_of};
 use chew_measuring::Failure;
 use chew_samples::five;
 use chew_shared_samples::{UserCall, pair};
-use chew_syllable::{Key, Phrase, Syllable};
+use chew_syllable::{GREATEST_FREQ, Key, Phrase, Syllable};
 use std::alloc::{AllocGlobal, Global};
 use std::fs::Files;
 
@@ -32,7 +32,7 @@ impl Word {
 
     /// To learn it.
     pub(crate) fn learn(&self) -> Option<UserCall> {
-        if self.freq > 99_999_999 {
+        if self.freq > GREATEST_FREQ {
             return None;
         }
         Some(UserCall::learn(self.key.copy(), self.phrase.copy(), self.freq, self.freq))

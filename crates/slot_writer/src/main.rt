@@ -22,7 +22,7 @@ const FAILED: u8 = 1;
 const MAPS: u32 = 100_000;
 
 fn main(rt: HostRuntime) -> ExitCode {
-    match run(&rt) {
+    match write_maps(&rt) {
         Ok(status) => ExitCode::from(status),
         Err(failure) => {
             let _ = eprintln!(rt; "{failure}");
@@ -31,7 +31,7 @@ fn main(rt: HostRuntime) -> ExitCode {
     }
 }
 
-fn run(rt: &HostRuntime) -> Result<u8, Failure> {
+fn write_maps(rt: &HostRuntime) -> Result<u8, Failure> {
     let mut words = Vec::new(rt.alloc());
     for word in env::args(rt)?.skip(1) {
         words.push(word)?;

@@ -4,7 +4,7 @@ ghost use Rattle.std.specs.Prelude.{◌≤◌};
 
 use crate::failure::Failure;
 use crate::order::rises;
-use chew_syllable::{Key, KeyRow, Phrase, Syllable};
+use chew_syllable::{Key, KeyRow, Phrase, SYSTEM_ROWS_LIMIT, Syllable};
 use chew_trie_write::write_image;
 use std::alloc::Global;
 
@@ -74,7 +74,7 @@ pub(crate) fn image_of(alloc: Global, number: u64) -> Result<Vec<u8>, Failure> {
     }
     let syllables = syllables(alloc, LEAST_SIDE + number % SIDES)?;
     let rows = rows(alloc, &syllables, freq_of(number))?;
-    if rows.len() > 250_000 || !rises(&rows) {
+    if rows.len() > SYSTEM_ROWS_LIMIT as usize || !rises(&rows) {
         return Err(Failure::OtherMap);
     }
     Ok(write_image(alloc, &rows)?)

@@ -11,8 +11,8 @@ ghost use Rattle.chew_spec_program.specs.SampleFaults.{cut_disk, failed_end, fai
 ghost use Rattle.chew_spec_program.specs.SampleRun.{five_disk, five_journal, without_round};
 ghost use Rattle.chew_spec_program.specs.Slots.{IsUncalled, IsUnwritten};
 
-/// A source whose first read fails and a damaged slot refuse a run, each with its own status. A disk that fails in a last round, and a last round that finds the seq
-/// spent, are told behind the context's lines.
+/// A source whose first read fails and a damaged slot refuse a run, each with its own status. A disk that fails in a last
+/// round, and a last round that finds the seq spent, are told behind the context's lines.
 pub fn known_faults()
     ensures source { IsRun run_words (failing_system (with_line_feed (codes "source"))) (refused_end 7) }
     ensures slot { IsRun run_words (over_disk cut_disk (with_line_feed (codes "slot 0 damaged 60"))) (refused_end 6) }

@@ -5,11 +5,11 @@ ghost use Rattle.toml.specs.Data.{Data, as_bool, as_integer, as_str};
 ghost use Rattle.chew_spec_settings.specs.Fault.{Kind};
 ghost use Rattle.chew_spec_settings.specs.Name.{Layout, Buffer, Page, Selection, EscapeClears, Learn, Cap};
 ghost use Rattle.chew_spec_settings.specs.SettingsText.{at_fault, settings_of};
-ghost use Rattle.chew_spec_settings.specs.Values.{layout_value, number_up_to, selection_value, truth};
+ghost use Rattle.chew_spec_settings.specs.Values.{layout_value, integer_up_to, selection_value, truth};
 
 /// What is no number, no text, or neither yes nor no has another kind, and nothing else.
 pub fn kinds_of_values()
-    ensures number { (greatest : ℕ) (value : Data) → (number_up_to greatest value ≡ Err Kind) ↔ (as_integer value ≡ None) }
+    ensures number { (greatest : ℕ) (value : Data) → (integer_up_to greatest value ≡ Err Kind) ↔ (as_integer value ≡ None) }
     ensures layout { (value : Data) → (layout_value value ≡ Err Kind) ↔ (as_str value ≡ None) }
     ensures selection { (value : Data) → (selection_value value ≡ Err Kind) ↔ (as_str value ≡ None) }
     ensures truth { (value : Data) → (truth value ≡ Err Kind) ↔ (as_bool value ≡ None) }

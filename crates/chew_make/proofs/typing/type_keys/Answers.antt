@@ -47,10 +47,10 @@ loop-key-preserved c =
     let longer : take i keys ++ (key_of key ∷ []) ≡ take (i + 1) keys =
     ap (λ (k : spec.KeyStroke). take i keys ++ (k ∷ [])) (sym (get_or-map key_of c.args.keys.now i (Char 0) (key_of key) in_code)) ∙ sym (take_more keys i (key_of key) inside) in
     record {
-      typed = typed_key basis (take i keys) (key_of key) (tally_of c.loop-key.typist) (tally_of c.in-Ok.next) c.loop-key.invariant.typed c.in-Ok.ensures.value
+      typed = typed_key basis (take i keys) (key_of key) (tally_of c.loop-key.typist) (tally_of c.in_ok-typist-2.typist) c.loop-key.invariant.typed c.in_ok-typist-2.ensures.value
           ∙ ap (λ (l : List spec.KeyStroke). counted (typed_over basis l)) longer;
-      singles = c.in-Ok.ensures.singles;
-      pairs = c.in-Ok.ensures.pairs;
+      singles = c.in_ok-typist-2.ensures.singles;
+      pairs = c.in_ok-typist-2.ensures.pairs;
     }
 
 pub returns : goal.returns

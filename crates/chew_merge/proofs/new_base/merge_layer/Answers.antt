@@ -6,8 +6,8 @@ use Rattle.chew_merge.proofs.new_base.merge_layer.Goals as goal
 pub write_image-requires-clause-map : goal.write_image-requires-clause-map
 write_image-requires-clause-map c = ap is_map (c.as_slice.ensures.value ∙ c.in_ok-rows.ensures.rows) ∙ c.in_ok-rows.ensures.map
 
-pub trie_of-requires : goal.trie_of-requires
-trie_of-requires c = c.in_ok-bytes.ensures.whole
+pub of_image-requires : goal.of_image-requires
+of_image-requires c = c.in_ok-bytes.ensures.whole
 
 pub returns : goal.returns
-returns c = c.trie_of.ensures ∙ c.in_ok-bytes.ensures.rows ∙ c.as_slice.ensures.value ∙ c.in_ok-rows.ensures.rows
+returns c = c.of_image.ensures ∙ c.in_ok-bytes.ensures.rows ∙ c.as_slice.ensures.value ∙ c.in_ok-rows.ensures.rows

@@ -7,4 +7,4 @@ use Rattle.chew_plain.proofs.look.found_at.Goals as goal
 pub returns : goal.returns
 returns c =
     c.under.ensures.value
-    ∙ ap (rows_under c.args.pairs.now) (c.in-Some.ensures.ok ∙ slice_codes c.args.run.now c.at.inside.start c.at.inside.len c.args.at c.at.view_is)
+    ∙ ap (rows_under c.args.pairs.now) (c.of_some.ensures ∙ slice_codes c.args.run.now c.at.inside.start c.at.inside.len c.args.at c.at.view_is)

@@ -27,7 +27,7 @@ returns-then-len-characters-clause-err c =
 
 pub returns-clause-ok : goal.returns-clause-ok
 returns-clause-ok c =
-    let same = c.in-Some-of.ensures.ok ∙ c.as_slice.ensures.value in
-    key_is c.args.characters c.in-Some-of.key (codes_of_text c.args.text.now)
+    let same = c.of_some.ensures ∙ c.as_slice.ensures.value in
+    key_is c.args.characters c.of_some.result (codes_of_text c.args.text.now)
     (all_codes c.reading.syllables.items _ _ c.reading.invariant (no_codes c.reading.rest.now c.in_default.ensures.none) ∙ ap Some (sym same))
     (ap length same ∙ (sym c.len.ensures.value ∙ c.if-len-characters.false))

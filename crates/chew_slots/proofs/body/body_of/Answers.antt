@@ -1,5 +1,5 @@
 -- By its parts.
-use Rattle.std.proofs.Common.{sym, ap, ◌∙◌}
+use Rattle.std.proofs.Common.{ap, ◌∙◌}
 use Rattle.chew_spec_slots.specs.Slot.{digest}
 use Rattle.chew_slots.proofs.Bodies.{body-by}
 use Rattle.chew_slots.proofs.body.body_of.Goals as goal

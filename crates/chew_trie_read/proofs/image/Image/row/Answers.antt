@@ -40,8 +40,8 @@ phrase_in-requires c =
     let read = row_read c.self.inside.bytes.now c.self.inside.counts c.args.place c.rows_place.result c.text_place.result c.row_at-row.result c.self.invariant within c.rows_place.ensures c.row_at-row.ensures c.text_place.ensures in
     read.within
 
-pub text_of-requires : goal.text_of-requires
-text_of-requires c =
+pub utf8_of-requires : goal.utf8_of-requires
+utf8_of-requires c =
     let within : c.args.place < length (rows_in c.self.inside.bytes.now) = subst (λ (r : List Row). c.args.place < length r) (sym c.self.view_is) c.requires in
     let read = row_read c.self.inside.bytes.now c.self.inside.counts c.args.place c.rows_place.result c.text_place.result c.row_at-row.result c.self.invariant within c.rows_place.ensures c.row_at-row.ensures c.text_place.ensures in
     subst IsUtf8 (sym (c.phrase_in.ensures ∙ read.phrase)) read.text_is
@@ -52,6 +52,6 @@ returns c =
     let read = row_read c.self.inside.bytes.now c.self.inside.counts c.args.place c.rows_place.result c.text_place.result c.row_at-row.result c.self.invariant within c.rows_place.ensures c.row_at-row.ensures c.text_place.ensures in (
       read.row.key,
       ap (λ (r : List Row). slice_get r c.args.place) (sym c.self.view_is) ∙ read.at
-          ∙ row_same read.row c.text_of.result.now c.row.inside.freq c.row.inside.time (sym (c.text_of.ensures ∙ c.phrase_in.ensures ∙ read.phrase))
+          ∙ row_same read.row c.utf8_of.result.now c.row.inside.freq c.row.inside.time (sym (c.utf8_of.ensures ∙ c.phrase_in.ensures ∙ read.phrase))
           (sym (ap (λ (f : RowFields). f.freq) c.row.view_is ∙ read.freq)) (sym (ap (λ (f : RowFields). f.time) c.row.view_is ∙ read.time)),
     )
