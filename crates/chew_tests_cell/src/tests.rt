@@ -7,8 +7,8 @@ use chew_plain::{Call, Entry};
 use std::process::Abort;
 use std::test::*;
 
-/// How many passes there are, and how many calls each of them makes.
-const PASSES: u32 = 16;
+/// How many passes there are, as many as a shared dictionary has at most, and how many calls each of them makes.
+const PASSES: u32 = 17;
 
 const CALLS: u64 = 2000;
 
@@ -36,7 +36,7 @@ fn has_each_once_in_order(entries: &[Entry]) -> bool {
 }
 
 #[test]
-fn each_call_of_sixteen_threads_stands_once_in_its_callers_order(
+fn each_call_of_seventeen_threads_stands_once_in_its_callers_order(
     rt: HostRuntime,
 ) -> Result<(), Fail> {
     let (cell, passes) = Cell::new(rt.alloc(), Journal::new(rt.alloc()), PASSES)?;
@@ -45,7 +45,7 @@ fn each_call_of_sixteen_threads_stands_once_in_its_callers_order(
         return Err(Fail::new("no pass"));
     };
     let journal = cell.close(first, passes);
-    assert_eq!(rt; journal.entries().len(), 32_000);
+    assert_eq!(rt; journal.entries().len(), 34_000);
     assert!(rt; has_each_once_in_order(journal.entries()));
     Ok(())
 }

@@ -18,4 +18,6 @@ mod many_calls;
 #[cfg(test)]
 mod snapshots;
 #[cfg(test)]
+mod sorting;
+#[cfg(test)]
 mod system;

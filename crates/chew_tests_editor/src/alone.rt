@@ -1,17 +1,17 @@
 //! An editor alone with a system and a user's dictionary: each call is answered as it is made.
 
-ghost use Rattle.std.specs.Prelude.{◌≡◌, ◌++◌, IfOk, IsTrue, map};
+ghost use Rattle.std.specs.Prelude.{IfOk, IsTrue};
 ghost use Rattle.std.specs.List.{list_all};
 ghost use Rattle.chew_spec_dictionary.specs.History.{is_user_call};
-ghost use Rattle.chew_spec_editor.specs.Alone.{point_after, replies_from};
 ghost use Rattle.chew_spec_syllable.specs.Row.{is_row};
 ghost use Rattle.chew_spec_text.specs.KeyStroke.{is_key_stroke};
 ghost use Rattle.chew_spec_editor.specs.Invariant.{HasSingles};
-ghost use Rattle.chew_plain.specs.Call.{call_of, reply_of};
+ghost use Rattle.chew_plain.specs.Call.{call_of};
 ghost use Rattle.chew_script.specs.Keys.{key_of, keys_of};
 
-use chew_editor::{Editor, Pressed, finish, press};
-use chew_plain::{Call, Entry, Plain, Reply, RowMap};
+use crate::library::answered;
+use chew_editor::{Editor, Pressed, press};
+use chew_plain::{Call, Entry, Plain, RowMap};
 use chew_script::{KeyStroke, Line, append_entry, append_line};
 use chew_settings::Settings;
 use chew_syllable::NoMemory;
@@ -129,9 +129,7 @@ fn typed(
         Ok(Pressed::Done(editor, line)) => Ok((editor, line)),
         Ok(Pressed::Ask(pending)) => {
             note(noted, pending.calls())?;
-            let mut replies = Vec::new(alloc);
-            answer(plain, pending.calls(), &mut replies)?;
-            finish(alloc, pending, system, replies)
+            answered(alloc, pending, system, plain)
         }
         Err((_editor, refused)) => Err(refused),
     }
@@ -149,20 +147,4 @@ fn note(noted: &mut Vec<u8>, calls: &[Call]) -> Result<(), NoMemory> {
         )?;
     }
     Ok(())
-}
-
-/// Makes calls, one after another.
-fn answer(plain: &mut Plain, calls: &[Call], replies: &mut Vec<Reply>) -> Result<(), NoMemory>
-    requires { IsTrue (list_all is_user_call (map call_of calls.now)) }
-    ensures replies { IfOk result (λ _. map reply_of replies.new.items ≡ map reply_of replies.old.items ++ replies_from plain.old (map call_of calls.now)) }
-    ensures point { IfOk result (λ _. plain.new ≡ point_after plain.old (map call_of calls.now)) }
-{
-    match calls {
-        [] => Ok(()),
-        [call, rest @ ..] => {
-            let reply = plain.apply(call)?;
-            replies.push(reply)?;
-            answer(plain, rest, replies)
-        }
-    }
 }

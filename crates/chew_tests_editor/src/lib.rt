@@ -12,6 +12,8 @@ mod editor;
 #[cfg(test)]
 mod largest;
 #[cfg(test)]
+mod library;
+#[cfg(test)]
 mod opened;
 #[cfg(test)]
 mod part;

@@ -66,10 +66,8 @@ impl Opened {
             return None;
         }
         let before = self.page.saturating_mul(self.per_page);
-        match self.current().iter().skip(before).nth(at) {
-            Some(part) => Some(part.copy()),
-            None => None,
-        }
+        let part = self.current().iter().skip(before).nth(at)?;
+        Some(part.copy())
     }
 
     /// The page, the pages, and the candidates behind the keys that pick them.

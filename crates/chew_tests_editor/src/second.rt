@@ -323,7 +323,7 @@ impl Second {
     }
 
     /// The line that shows all this, with a note.
-    pub(crate) fn line(&self, alloc: Global, note: &str) -> Result<String, Fail> {
+    pub(crate) fn output_line(&self, alloc: Global, note: &str) -> Result<String, Fail> {
         let preedit = self.text(alloc, 0, self.cells.len())?;
         let mut column: usize = 0;
         for character in self.characters(alloc)?.iter().take(self.cursor) {

@@ -27,7 +27,7 @@ impl Second {
             Some(opened) => self.in_window(alloc, opened, key)?,
             None => self.without_window(alloc, key)?,
         };
-        self.line(alloc, note)
+        self.output_line(alloc, note)
     }
 
     fn in_window(

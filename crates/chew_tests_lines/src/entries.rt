@@ -12,7 +12,7 @@ fn syllable(code: u16) -> Syllable {
 }
 
 /// The run of these syllables.
-fn run(rt: &impl Abort, syllables: &[Syllable]) -> Run {
+fn run_of(rt: &impl Abort, syllables: &[Syllable]) -> Run {
     match Run::of(syllables) {
         Some(run) => run,
         None => panic!(rt; "these are no run"),
@@ -63,7 +63,7 @@ fn looks_in_a_trace(rt: HostRuntime) -> Result<(), NoMemory> {
         (1, 16, "16 look 10268\n"),
         (2, 1, "1 look 10268,8708\n"),
     ] {
-        let run = run(&rt, &syllables[..count]);
+        let run = run_of(&rt, &syllables[..count]);
         prints(&rt, alloc, who, Call::Look(run), wanted)?;
     }
     Ok(())
@@ -71,7 +71,7 @@ fn looks_in_a_trace(rt: HostRuntime) -> Result<(), NoMemory> {
 
 #[test]
 fn the_longest_look(rt: HostRuntime) -> Result<(), NoMemory> {
-    let run = run(&rt, &[syllable(10268); 39]);
+    let run = run_of(&rt, &[syllable(10268); 39]);
     let wanted = longest_look(rt.alloc())?;
     prints(&rt, rt.alloc(), u32::MAX, Call::Look(run), wanted.as_str())
 }

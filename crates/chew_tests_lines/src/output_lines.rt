@@ -15,7 +15,7 @@ fn text(alloc: Global, characters: &str, times: u32) -> Result<Text, NoMemory> {
 }
 
 /// A line of these texts, each of them so often: the preedit, what is held, the commit and the window.
-fn line(
+fn line_of(
     alloc: Global,
     [preedit, held, commit, window]: [&str; 4],
     times: u32,
@@ -51,7 +51,7 @@ const NOTES: [(Note, &str); 7] = [
 
 /// The line with this note is printed so.
 fn prints_note(rt: &impl Abort, alloc: Global, note: Note, wanted: &str) -> Result<(), NoMemory> {
-    let line = line(alloc, ["策", "ㄕ", "測試", "1/2 1策 2測"], 1, 2, note)?;
+    let line = line_of(alloc, ["策", "ㄕ", "測試", "1/2 1策 2測"], 1, 2, note)?;
     prints(rt, alloc, &line, wanted)
 }
 
@@ -66,7 +66,7 @@ fn lines_with_their_notes(rt: HostRuntime) -> Result<(), NoMemory> {
 #[test]
 fn a_line_of_nothing(rt: HostRuntime) -> Result<(), NoMemory> {
     let alloc = rt.alloc();
-    let empty = line(alloc, ["", "", "", ""], 1, 0, Note::Quiet)?;
+    let empty = line_of(alloc, ["", "", "", ""], 1, 0, Note::Quiet)?;
     prints(&rt, alloc, &empty, "\t0\t\t\t\t\n")
 }
 
@@ -74,7 +74,7 @@ fn a_line_of_nothing(rt: HostRuntime) -> Result<(), NoMemory> {
 fn a_line_far_longer_than_any(rt: HostRuntime) -> Result<(), NoMemory> {
     let alloc = rt.alloc();
     let wanted = longest(alloc)?;
-    let line = line(alloc, ["測", "ㄕ", "試", "1"], 40_000, u32::MAX, Note::Forgot)?;
+    let line = line_of(alloc, ["測", "ㄕ", "試", "1"], 40_000, u32::MAX, Note::Forgot)?;
     prints(&rt, alloc, &line, wanted.as_str())
 }
 
@@ -98,7 +98,7 @@ fn longest(alloc: Global) -> Result<String, NoMemory> {
 #[test]
 fn lines_behind_a_text(rt: HostRuntime) -> Result<(), NoMemory> {
     let alloc = rt.alloc();
-    let line = line(alloc, ["策", "", "", ""], 1, 2, Note::Hidden)?;
+    let line = line_of(alloc, ["策", "", "", ""], 1, 2, Note::Hidden)?;
     let out = twice(alloc, &line)?;
     let wanted = "context 1\n策\t2\t\t\t\thidden\n策\t2\t\t\t\thidden\n";
     assert!(rt; out.as_slice() == wanted.as_bytes());

@@ -7,7 +7,7 @@ ghost use Rattle.chew_spec_phrasing.specs.CombinedRows.{combined_hits};
 use crate::hits::{hit, shown};
 use crate::phrasable::can_segment;
 use crate::runs::repeated;
-use chew_phrasing::{Piece, best_of_run, combine};
+use chew_phrasing::{Piece, best_of_run, combine, combine_at};
 use chew_plain::{Hit, RowMap};
 use chew_samples::{SHI, are_apart, syllable};
 use chew_syllable::{NoMemory, Run};
@@ -138,6 +138,40 @@ fn check_best(rt: &impl Abort, alloc: Global, system: &RowMap, user: &[Hit]) -> 
     let pieces = best_pieces(alloc, system, &run, user)?;
     are_best(rt, &pieces);
     Ok(())
+}
+
+/// Whether there are four combined rows of each interval that begins at a place.
+fn has_all_at(
+    alloc: Global,
+    system: &RowMap,
+    run: &Run,
+    user: &[Hit],
+    place: u8,
+) -> Result<bool, Fail> {
+    if usize::from(place) >= run.list().len() {
+        return Err(Fail::new("no such place"));
+    }
+    let rows = combine_at(alloc, system, run, user, place)?;
+    let intervals = min(11, 39u8.saturating_sub(place));
+    Ok(rows.list().len() == usize::from(intervals).saturating_mul(4))
+}
+
+/// The combined rows of 39 syllables by the system and these hits, place by place.
+fn check_places(rt: &impl Abort, alloc: Global, system: &RowMap, user: &[Hit]) -> Result<(), Fail> {
+    let Some(run) = Run::of(&[syllable(SHI); 39]) else {
+        return Err(Fail::new("no run"));
+    };
+    for place in 0..39u8 {
+        assert!(rt; has_all_at(alloc, system, &run, user, place)?);
+    }
+    Ok(())
+}
+
+#[test]
+fn each_place_of_thirty_nine_syllables_has_its_rows(rt: HostRuntime) -> Result<(), Fail> {
+    let system = system(rt.alloc())?;
+    let user = all_hits(rt.alloc())?;
+    check_places(&rt, rt.alloc(), &system, &user)
 }
 
 #[test]

@@ -19,6 +19,8 @@ mod known;
 #[cfg(test)]
 mod largest;
 #[cfg(test)]
+mod many_rows;
+#[cfg(test)]
 mod phrasable;
 #[cfg(test)]
 mod runs;

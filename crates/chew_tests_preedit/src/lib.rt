@@ -4,6 +4,8 @@
 #[cfg(test)]
 mod edits;
 #[cfg(test)]
+mod largest;
+#[cfg(test)]
 mod marked;
 #[cfg(test)]
 mod samples;

@@ -3,7 +3,7 @@
 use crate::samples::choice;
 use chew_candidates::{CandList, Window};
 use chew_plain::{Hit, Hits};
-use chew_syllable::Phrase;
+use chew_syllable::{Phrase, SYSTEM_ROWS_LIMIT};
 use std::alloc::Global;
 use std::process::Abort;
 use std::test::Fail;
@@ -47,6 +47,23 @@ fn shown(alloc: Global, place: u8, per_page: u8) -> Result<Window, Fail> {
     Ok(Window::show(place, lists, per_page))
 }
 
+/// The window of as many candidates of one syllable as a system has rows at most, ten on a page.
+fn largest(alloc: Global) -> Result<Window, Fail> {
+    let mut hits = Vec::new(alloc);
+    for freq in 0..SYSTEM_ROWS_LIMIT {
+        hits.push(hit(1, "測", freq)?)?;
+    }
+    if hits.is_empty() {
+        return Err(Fail::new("no candidate"));
+    }
+    let mut lists = Vec::new(alloc);
+    lists.push(CandList {
+        len: 1,
+        rows: Hits::of(hits),
+    })?;
+    Ok(Window::show(3, lists, 10))
+}
+
 /// The window shows this page of so many, of these frequencies.
 fn shows(rt: &impl Abort, window: &Window, page: u64, pages: u64, freqs: &[u32]) {
     assert_eq!(rt; (window.page_number(), window.pages()), (page, pages));
@@ -83,6 +100,17 @@ fn a_window_goes_round_its_pages(rt: HostRuntime) -> Result<(), Fail> {
     window.page_next();
     window.shorter();
     shows(&rt, &window, 1, 1, &[9318]);
+    Ok(())
+}
+
+#[test]
+fn the_largest_window_is_copied(rt: HostRuntime) -> Result<(), Fail> {
+    let window = largest(rt.alloc())?;
+    let mut copy = window.copy(rt.alloc())?;
+    shows(&rt, &copy, 1, 25_000, &[0, 1, 2, 3, 4, 5, 6, 7, 8, 9]);
+    copy.page_back();
+    assert_eq!(rt; copy.page_number(), 25_000);
+    assert_eq!(rt; copy.on_page().first().map(|hit| hit.freq), Some(249_990));
     Ok(())
 }
 

@@ -16,4 +16,6 @@ mod opened;
 #[cfg(test)]
 mod replies;
 #[cfg(test)]
+mod seats;
+#[cfg(test)]
 mod steps;

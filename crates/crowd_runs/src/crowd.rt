@@ -9,6 +9,7 @@ use chew_plain::Entry;
 use chew_replay::{Retold, keys_in, replay};
 use chew_run_samples::{Outcome, Outside, found_after, run_words};
 use chew_samples::FIVE_ROWS;
+use chew_script::ROUNDS_LIMIT;
 use chew_settings::Settings;
 use chew_slots::Found;
 use std::alloc::{AllocError, Global};
@@ -116,13 +117,10 @@ fn are_of_fronts(
 }
 
 /// The words of a run.
-const WORDS: [&str; 4] = ["run", "system", "script", "folder"];
-
-/// How many rounds a script asks for at most.
-const ROUNDS: u32 = 64;
+pub(crate) const WORDS: [&str; 4] = ["run", "system", "script", "folder"];
 
 /// What a run of this script over the five rows reads and writes, over empty slots with these failing calls.
-fn outside_of(alloc: Global, script: &str, disk: Fails) -> Result<Outside, AllocError> {
+pub(crate) fn outside_of(alloc: Global, script: &str, disk: Fails) -> Result<Outside, AllocError> {
     let system = FIVE_ROWS.as_bytes().to_vec(alloc)?;
     let script = script.as_bytes().to_vec(alloc)?;
     Ok(Outside {
@@ -139,7 +137,7 @@ fn has_ended_well(run: &Outcome) -> Result<(), Failure> {
     let rounds = run.done.rounds.as_slice();
     let is_saved = all_saved(rounds, run.done.last_from);
     let status = if is_saved { 0 } else { 9 };
-    if run.done.status != status || run.done.last_from != ROUNDS {
+    if run.done.status != status || run.done.last_from != ROUNDS_LIMIT {
         return Err(Failure::OtherEnd);
     }
     Ok(())

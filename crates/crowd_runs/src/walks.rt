@@ -1,6 +1,7 @@
 //! Keys that a fixed rule makes, as a script has them.
 
 use crate::failure::Failure;
+use chew_script::{CONTEXTS_LIMIT, ROUNDS_LIMIT};
 use std::alloc::Global;
 
 /// What the rule takes its keys from: whole syllables, parts of one, one that has no row, symbols, and each named key.
@@ -91,7 +92,7 @@ fn walk(alloc: Global, seed: u32) -> Result<String, Failure> {
 /// The keys of sixteen contexts.
 pub(crate) fn walks(alloc: Global, seed: u32) -> Result<Vec<String>, Failure> {
     let mut all = Vec::new(alloc);
-    for context in 0..16u32 {
+    for context in 0..CONTEXTS_LIMIT as u32 {
         let from = seed.wrapping_mul(16).wrapping_add(context);
         all.push(walk(alloc, from)?)?;
     }
@@ -101,7 +102,7 @@ pub(crate) fn walks(alloc: Global, seed: u32) -> Result<Vec<String>, Failure> {
 /// The script of these contexts, with as many rounds as a script may have.
 pub(crate) fn script_of(alloc: Global, walks: &[String]) -> Result<String, Failure> {
     let mut script = String::new(alloc);
-    for _round in 0..64u32 {
+    for _round in 0..ROUNDS_LIMIT {
         script.push_str("round\n")?;
     }
     let mut context = 0u32;
