@@ -23,7 +23,8 @@ fn keys_give_lines(rt: HostRuntime) -> Result<(), Fail> {
         &rt,
         rt.alloc(),
         "hk4g<E>4<E>18 ",
-        "\t0\tㄘ\t\t\t\n\t0\tㄘㄜ\t\t\t\n策\t2\t\t\t\t\n策\t2\tㄕ\t\t\t\n策\t2\tㄕ\t\t\tbell\n測試\t4\t\t\t\t\n\t0\t\t測試\t\t\n\t0\tㄅ\t\t\t\n\t0\tㄅㄚ\t\t\t\n\t0\t\t\t\tbell\n",
+        "\t0\tㄘ\t\t\t\n\t0\tㄘㄜ\t\t\t\n策\t2\t\t\t\t\n策\t2\tㄕ\t\t\t\n策\t2\tㄕ\t\t\tbell\n\
+         測試\t4\t\t\t\t\n\t0\t\t測試\t\t\n\t0\tㄅ\t\t\t\n\t0\tㄅㄚ\t\t\t\n\t0\t\t\t\tbell\n",
     )
 }
 
@@ -53,7 +54,10 @@ fn keys_ring_while_something_is_held(rt: HostRuntime) -> Result<(), Fail> {
         &rt,
         rt.alloc(),
         "g<D><L><R><H><Z><U><V><P><N><T><C2><F1><K2>!",
-        "\t0\tㄕ\t\t\t\n\t0\tㄕ\t\t\tbell\n\t0\tㄕ\t\t\tbell\n\t0\tㄕ\t\t\tbell\n\t0\tㄕ\t\t\tbell\n\t0\tㄕ\t\t\tbell\n\t0\tㄕ\t\t\tbell\n\t0\tㄕ\t\t\tbell\n\t0\tㄕ\t\t\tbell\n\t0\tㄕ\t\t\tbell\n\t0\tㄕ\t\t\tbell\n\t0\tㄕ\t\t\tbell\n\t0\tㄕ\t\t\tbell\n\t0\tㄕ\t\t\tbell\n\t0\tㄕ\t\t\tbell\n",
+        "\t0\tㄕ\t\t\t\n\
+         \t0\tㄕ\t\t\tbell\n\t0\tㄕ\t\t\tbell\n\t0\tㄕ\t\t\tbell\n\t0\tㄕ\t\t\tbell\n\t0\tㄕ\t\t\tbell\n\
+         \t0\tㄕ\t\t\tbell\n\t0\tㄕ\t\t\tbell\n\t0\tㄕ\t\t\tbell\n\t0\tㄕ\t\t\tbell\n\t0\tㄕ\t\t\tbell\n\
+         \t0\tㄕ\t\t\tbell\n\t0\tㄕ\t\t\tbell\n\t0\tㄕ\t\t\tbell\n\t0\tㄕ\t\t\tbell\n",
     )
 }
 

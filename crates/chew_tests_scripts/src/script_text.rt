@@ -98,8 +98,12 @@ fn each_front_of_a_small_script(rt: HostRuntime) {
 }
 
 /// Lines of four contexts, which name each key that has a name.
-const NAMED: &[u8] =
-    b"1:<E><B><D><L><R><H><Z><U><V><P><N><T><X><lt>\n2: ~>\n2:<C2><C3><C4><C5><C6><C7><C8><C9>\n4:<F1><F2><F3><F4><F5><F6><F7><F8><F9>\n3:<K2><K3><K4><K5><K6><K7><K8><K9>\n1:>";
+const NAMED: &[u8] = b"1:<E><B><D><L><R><H><Z><U><V><P><N><T><X><lt>\n\
+    2: ~>\n\
+    2:<C2><C3><C4><C5><C6><C7><C8><C9>\n\
+    4:<F1><F2><F3><F4><F5><F6><F7><F8><F9>\n\
+    3:<K2><K3><K4><K5><K6><K7><K8><K9>\n\
+    1:>";
 
 /// The keys of the first context.
 const NAMED_FIRST: &[KeyStroke] = &[
